@@ -1,0 +1,10 @@
+pub mod Num
+pub mod Small
+pub mod Pattern
+pub mod Root
+pub mod Sqrt
+pub mod Square
+pub mod Log
+pub mod Exp
+pub mod Claims
+pub mod Cases
