@@ -54,3 +54,7 @@ f0·6 = ofBits binary32 0x3f19999a
 -- the f32 root of 2
 abbrev pub sqrt2 : Float
 sqrt2 = ofBits binary32 0x3fb504f3
+
+-- 0.25
+abbrev pub f¼ : Float
+f¼ = ofBits binary32 0x3e800000
