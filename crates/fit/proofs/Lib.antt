@@ -1,0 +1,7 @@
+-- Laws about the definitions.
+pub mod Finite
+pub mod Agree
+pub mod CubicLaws
+pub mod BandLaws
+pub mod Unique
+pub mod Cases

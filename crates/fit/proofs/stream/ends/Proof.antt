@@ -1,0 +1,17 @@
+use Rattle.fit.specs.Envelope.{endsBy}
+use borrow.Author.Needs.{needs}
+use Rattle.fit.proofs.stream.ends.Statement.{statement}
+use Rattle.fit.proofs.stream.ends.Tie as tie
+
+min-requires : tie.Need-min-requires
+min-requires c κs = search needs
+
+max-requires : tie.Need-max-requires
+max-requires c κs = search needs
+
+returns : tie.Need-returns
+unfolding endsBy
+returns c = cc
+
+pub ends-spec : {M : Type 1} → statement M
+ends-spec = tie.close (tie.spec min-requires max-requires returns)

@@ -1,0 +1,162 @@
+// The cubic in sigma of one pixel: its coefficients from four samples, its values, its extreme over a band of scales, and whether an inner level owns
+// the extremum.
+use crate::Band;
+use crate::Stationary;
+use tables::Set;
+ghost use mathlib.Core.Path.{_≡_};
+ghost use mathlib.Core.Bool.{cond, not};
+ghost use lib.Ieee.{nan, lt};
+ghost use Rattle.float.specs.Num.{f0};
+ghost use Rattle.fit.specs.Prims.{ours};
+ghost use Rattle.fit.specs.Cubic.{coeffsOf, hornerOf, discriminantOf, curvatureOf};
+ghost use Rattle.fit.specs.Band.{bandOf, finiteCubic, signOf, stationaryOf, betterBy, extremeOf};
+ghost use Rattle.fit.specs.Owns.{ownsOf};
+
+// The coefficients a, b, c, d that a table of four rows of three entries makes of the samples.
+pub fn apply_cubic_transform(transform: &[f32; 12], samples: [f32; 4]) -> [f32; 4]
+    ensures { λ r. ⌜ r ≡ coeffsOf (now (transform .entry)) samples ⌝ }
+{
+    let d0 = samples[0] - samples[3];
+    let d1 = samples[1] - samples[3];
+    let d2 = samples[2] - samples[3];
+    [
+        transform[0] * d0 + transform[1] * d1 + transform[2] * d2,
+        transform[3] * d0 + transform[4] * d1 + transform[5] * d2,
+        transform[6] * d0 + transform[7] * d1 + transform[8] * d2,
+        transform[9] * d0 + transform[10] * d1 + transform[11] * d2 + samples[3],
+    ]
+}
+
+// The cubic in sigma.
+pub fn compute_poly_coeffs(set: Set, samples: [f32; 4]) -> [f32; 4]
+    ensures { λ r. ⌜ r ≡ coeffsOf (set .scale) samples ⌝ }
+{
+    apply_cubic_transform(&set.scale, samples)
+}
+
+// The cubic in log2 of sigma, for the corrected size alone.
+pub fn compute_geometry_poly_coeffs(set: Set, samples: [f32; 4]) -> [f32; 4]
+    ensures { λ r. ⌜ r ≡ coeffsOf (set .geometry) samples ⌝ }
+{
+    apply_cubic_transform(&set.geometry, samples)
+}
+
+// The cubic k at s.
+pub fn horner(k: [f32; 4], s: f32) -> f32
+    ensures { λ r. ⌜ r ≡ hornerOf k s ⌝ }
+{
+    ((k[0] * s + k[1]) * s + k[2]) * s + k[3]
+}
+
+// The discriminant of the derivative of k.
+pub fn discriminant(k: [f32; 4]) -> f32
+    ensures { λ r. ⌜ r ≡ discriminantOf k ⌝ }
+{
+    let bp = 2.0 * k[1];
+    bp * bp - 2.0 * (6.0 * k[0]) * k[2]
+}
+
+// The second derivative of k at s.
+pub fn curvature(k: [f32; 4], s: f32) -> f32
+    ensures { λ r. ⌜ r ≡ curvatureOf k s ⌝ }
+{
+    6.0 * k[0] * s + 2.0 * k[1]
+}
+
+// The scales from sigma over the root of 2 to sigma times it, cut to the levels.
+pub fn neighbor_scale_band(sigmas: [f32; 4], sigma: f32) -> Band
+    ensures { λ r. ⌜ r ≡ bandOf sigmas sigma ⌝ }
+{
+    Band {
+        low: float::max(sigma / 1.4142135, sigmas[0]),
+        high: float::min(sigma * 1.4142135, sigmas[3]),
+    }
+}
+
+fn is_finite_cubic(k: [f32; 4]) -> bool
+    ensures { λ r. ⌜ r ≡ finiteCubic k ⌝ }
+{
+    float::is_finite(k[0])
+        & float::is_finite(k[1])
+        & float::is_finite(k[2])
+        & float::is_finite(k[3])
+}
+
+fn sign_of(is_max: bool) -> f32
+    ensures { λ r. ⌜ r ≡ signOf «is_max» ⌝ }
+{
+    if is_max { 1.0 } else { -1.0 }
+}
+
+// A quadratic with the leading coefficient b opens the way of the polarity.
+fn opens(b: f32, is_max: bool) -> bool
+    ensures { λ r. ⌜ r ≡ cond «is_max» (lt b f0) (not (lt b f0)) ⌝ }
+{
+    if is_max { b < 0.0 } else { !(b < 0.0) }
+}
+
+// The stationary point of the polarity asked for, where the cubic has one.
+fn stationary(k: [f32; 4], is_max: bool) -> Stationary
+    ensures { λ r. ⌜ r ≡ stationaryOf k «is_max» ⌝ }
+{
+    let a = k[0];
+    let b = k[1];
+    let c = k[2];
+    if float::abs(a) > 1e-6 {
+        let d = discriminant(k);
+        if d > 0.0 {
+            return Stationary::At((-(2.0 * b) - sign_of(is_max) * float::sqrt(d)) / (6.0 * a));
+        }
+        return Stationary::Nowhere;
+    }
+    if (float::abs(b) > 1e-6) & opens(b, is_max) {
+        return Stationary::At(-c / (2.0 * b));
+    }
+    Stationary::Nowhere
+}
+
+// The better of the ends' value and the stationary point's, where that point is strictly inside the band.
+fn better(k: [f32; 4], sign: f32, low: f32, high: f32, ends: f32, point: Stationary) -> f32
+    ensures { λ r. ⌜ r ≡ betterBy ours k sign low high ends point ⌝ }
+{
+    match point {
+        Stationary::At(s) => {
+            if (s > low) & (s < high) {
+                float::max(ends, sign * horner(k, s))
+            } else {
+                ends
+            }
+        }
+        Stationary::Nowhere => ends,
+    }
+}
+
+fn not_a_number() -> f32
+    ensures { λ r. ⌜ r ≡ nan ⌝ }
+{
+    0.0 / 0.0
+}
+
+// The largest value of k over the band for a maximum, the smallest for a minimum; NaN where a coefficient is not finite.
+pub fn band_extreme(k: [f32; 4], low: f32, high: f32, is_max: bool) -> f32
+    ensures { λ r. ⌜ r ≡ extremeOf k low high «is_max» ⌝ }
+{
+    if !is_finite_cubic(k) {
+        return not_a_number();
+    }
+    let sign = sign_of(is_max);
+    let ends = float::max(sign * horner(k, low), sign * horner(k, high));
+    let point = stationary(k, is_max);
+    sign * better(k, sign, low, high, ends, point)
+}
+
+// An inner level carries the strongest sample of the polarity.
+pub fn owns_scale_extremum(samples: [f32; 4], is_max: bool) -> bool
+    ensures { λ r. ⌜ r ≡ ownsOf samples «is_max» ⌝ }
+{
+    if is_max {
+        float::max(samples[1], samples[2]) > float::max(samples[0], samples[3])
+    } else {
+        float::min(samples[1], samples[2]) < float::min(samples[0], samples[3])
+    }
+}

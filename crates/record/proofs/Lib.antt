@@ -1,0 +1,4 @@
+pub mod Stores
+pub mod LayoutLaws
+pub mod RoundTrip
+pub mod ReadableLaws

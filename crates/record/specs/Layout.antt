@@ -1,0 +1,95 @@
+-- The bytes of a record, written and read, and how records lie in a buffer. Definitions only.
+use Prim.Native.Nat.{ℕ, suc, _+_, _*_, _/_, _%_, _^_, _<_, min}
+use mathlib.Core.Bool.{cond}
+use mathlib.Core.List.{List, [], _∷_, _++_}
+use lib.ListN.{getD, length, take, drop}
+use lib.Seq.{sets}
+use lib.Dec.{T, leb}
+use lib.Ieee.{Float, binary32, fits, ofBits, toBits}
+use Rattle.record.specs.declared.Record.{Record}
+
+-- ---- writing
+
+-- a word's four bytes, the lowest first
+unfoldable pub wordBytes : ℕ → List ℕ
+wordBytes v = v % 256 ∷ v / 256 % 256 ∷ v / 65536 % 256 ∷ v / 16777216 % 256 ∷ []
+
+-- a float's, by its bit pattern
+unfoldable pub floatBytes : Float → List ℕ
+floatBytes x = wordBytes (toBits binary32 x)
+
+-- four floats' bytes
+unfoldable pub floats4 : Float → Float → Float → Float → List ℕ
+floats4 a b c d = floatBytes a ++ (floatBytes b ++ (floatBytes c ++ floatBytes d))
+
+-- the 40 bytes: x, y, sigma, peak, the four centre samples, order key, octave, scale index, polarity, a spare byte
+unfoldable pub recordBytes : Record → List ℕ
+recordBytes r =
+    floats4 (r .x) (r .y) (r .sigma) (r .peak) ++ (floats4 (r .s0) (r .s1) (r .s2) (r .s3)
+    ++ (wordBytes (r .key) ++ (r .octave ∷ r .index ∷ r .polarity ∷ r .spare ∷ [])))
+
+-- the record r at place n of the buffer, where it has room for it whole
+unfoldable pub put : List ℕ → ℕ → Record → List ℕ
+put out n r = cond (leb (n * 40 + 40) (length out)) (sets out (n * 40) (recordBytes r)) out
+
+-- the records at the places n, n + 1, ..
+unfoldable pub lay : List ℕ → ℕ → List Record → List ℕ
+lay out n [] = out
+lay out n (r ∷ rs) = lay (put out n r) (suc n) rs
+
+-- records, one after the other
+unfoldable pub bytesOf : List Record → List ℕ
+bytesOf [] = []
+bytesOf (r ∷ rs) = recordBytes r ++ bytesOf rs
+
+-- the whole records that fit, first ones first, then the old bytes
+unfoldable pub laid : List Record → List ℕ → List ℕ
+laid rs out = let b = bytesOf (take (length out / 40) rs) in b ++ drop (length b) out
+
+-- how many of the records fit
+abbrev pub written : List Record → List ℕ → ℕ
+written rs out = min (length out / 40) (length rs)
+
+-- ---- reading
+
+-- the little-endian word that begins at the byte at
+unfoldable pub wordFrom : List ℕ → ℕ → ℕ
+wordFrom b at = getD b at 0 + 256 * getD b (at + 1) 0 + 65536 * getD b (at + 2) 0 + 16777216 * getD b (at + 3) 0
+
+-- the float that begins there; a NaN pattern gives NaN
+unfoldable pub floatFrom : List ℕ → ℕ → Float
+floatFrom b at = ofBits binary32 (wordFrom b at)
+
+-- the record that begins at the byte at
+unfoldable pub recordFrom : List ℕ → ℕ → Record
+recordFrom b at = record {
+  x = floatFrom b at;
+  y = floatFrom b (at + 4);
+  sigma = floatFrom b (at + 8);
+  peak = floatFrom b (at + 12);
+  s0 = floatFrom b (at + 16);
+  s1 = floatFrom b (at + 20);
+  s2 = floatFrom b (at + 24);
+  s3 = floatFrom b (at + 28);
+  key = wordFrom b (at + 32);
+  octave = getD b (at + 36) 0;
+  index = getD b (at + 37) 0;
+  polarity = getD b (at + 38) 0;
+  spare = getD b (at + 39) 0;
+}
+
+-- the n-th record of a list's bytes
+abbrev pub recordAt : List ℕ → ℕ → Record
+recordAt b n = recordFrom b (n * 40)
+
+-- each of its floats is a value of binary32, and its key is a word
+pub record Held (r : Record) : Type 0 where
+  pub x : T (fits binary32 (r .x))
+  pub y : T (fits binary32 (r .y))
+  pub sigma : T (fits binary32 (r .sigma))
+  pub peak : T (fits binary32 (r .peak))
+  pub s0 : T (fits binary32 (r .s0))
+  pub s1 : T (fits binary32 (r .s1))
+  pub s2 : T (fits binary32 (r .s2))
+  pub s3 : T (fits binary32 (r .s3))
+  pub key : r .key < 2 ^ 32

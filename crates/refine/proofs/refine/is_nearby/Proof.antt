@@ -1,0 +1,18 @@
+-- `refine::is_nearby` meets its contract.
+use Rattle.refine.specs.Refine.{nearby}
+use borrow.Author.Needs.{needs}
+use Rattle.refine.proofs.refine.is_nearby.Statement.{statement}
+use Rattle.refine.proofs.refine.is_nearby.Tie as tie
+
+is-finite-requires : tie.Need-is-finite-requires
+is-finite-requires c κs = search needs
+
+abs-requires : tie.Need-abs-requires
+abs-requires c κs = search needs
+
+returns : tie.Need-returns
+unfolding nearby
+returns c = cc
+
+pub is-nearby-spec : {M : Type 1} → statement M
+is-nearby-spec = tie.close (tie.spec is-finite-requires abs-requires returns)

@@ -1,0 +1,3 @@
+-- The refinement, by value and in place.
+pub mod Refine
+pub mod Lend

@@ -1,0 +1,38 @@
+-- The refusals and their numbers, and what the reader of a set answers. Definitions only.
+use Prim.Native.Nat.{ℕ}
+use mathlib.Core.List.{List}
+use mathlib.Core.Bool.{cond}
+use Rattle.tables.specs.declared.Refusal.{Refusal}
+use Rattle.tables.specs.declared.Refusal.the-variants.{Size, Level, Octave, BadSet, Records, Room, NoSize}
+use Rattle.tables.specs.declared.Checked.{Checked}
+use Rattle.tables.specs.declared.Checked.the-variants.{Fine, Bad}
+use Rattle.tables.specs.declared.SetRead.{SetRead}
+use Rattle.tables.specs.Set.{setOf, goodRecord, blank}
+
+-- the number of a refusal
+unfoldable pub number : Refusal → ℕ
+number Size = 1
+number Level = 2
+number Octave = 3
+number BadSet = 4
+number (Records i) = 5
+number Room = 6
+number NoSize = 7
+
+-- the index that goes with it: that of a bad record, else 0
+unfoldable pub index : Refusal → ℕ
+index (Records i) = i
+index Size = 0
+index Level = 0
+index Octave = 0
+index BadSet = 0
+index Room = 0
+index NoSize = 0
+
+-- the answer to a bad record: refusal 4, and a set of zeros beside it
+unfoldable pub refusedSet : SetRead
+refusedSet = record { answer = Bad BadSet; set = blank }
+
+-- the set of a good record; otherwise the refusal
+unfoldable pub readSetOf : List ℕ → SetRead
+readSetOf b = cond (goodRecord b) (record { answer = Fine; set = setOf b }) refusedSet

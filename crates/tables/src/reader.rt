@@ -1,0 +1,118 @@
+// The parts of a set's record: words, floats, order bytes and spare bytes, each by its place.
+ghost use mathlib.Core.Path.{_≡_};
+ghost use Prim.Native.Nat.{_+_, _*_, _≤_, _<_};
+ghost use lib.ListN.{length, take, drop};
+ghost use lib.Ieee.{binary32, ofBits};
+ghost use Rattle.tables.specs.Set.{wordAt, floatsAt, setOf, spareZero};
+ghost use Rattle.tables.specs.Refusal.{refusedSet};
+use crate::Checked;
+use crate::Refusal;
+use crate::Set;
+use crate::SetRead;
+
+// The byte as a word.
+fn wide(byte: u8) -> u32
+    ensures { λ r. ⌜ (r ≡ byte) × (r < 256) ⌝ }
+{
+    byte as u32
+}
+
+// The little-endian word at byte 4 * i.
+fn word_at(bytes: &[u8], i: usize) -> u32
+    requires { ⌜ 4 * i + 4 ≤ length (now bytes) ⌝ }
+    ensures { λ r. ⌜ r ≡ wordAt (now (bytes .entry)) i ⌝ }
+{
+    let at = 4 * i;
+    let a = wide(bytes[at]);
+    let b = wide(bytes[at + 1]);
+    let c = wide(bytes[at + 2]);
+    let d = wide(bytes[at + 3]);
+    a + 256 * b + 65536 * c + 16777216 * d
+}
+
+// The float with the bit pattern `word`, whichever it is.
+fn float_of(word: u32) -> f32
+    ensures { λ r. ⌜ r ≡ ofBits binary32 word ⌝ }
+{
+    if 0x7f80_0000 < word % 0x8000_0000 {
+        return 0.0 / 0.0;
+    }
+    f32::from_bits(word)
+}
+
+// As many floats as `out` holds, from the i-th word on.
+fn read_floats(bytes: &[u8], i: usize, out: &mut [f32])
+    requires { ⌜ 4 * (i + length (now out)) ≤ length (now bytes) ⌝ }
+    ensures { λ _. ⌜ now (out .exit) ≡ floatsAt (length (now (out .entry))) (now (bytes .entry)) i ⌝ }
+{
+    let mut k: usize = 0;
+    while k < out.len() {
+        out[k] = float_of(word_at(bytes, i + k));
+        k += 1;
+    }
+}
+
+// The nine sample-order bytes.
+fn order_of(bytes: &[u8]) -> [u8; 9]
+    requires { ⌜ length (now bytes) ≡ 528 ⌝ }
+    ensures { λ r. ⌜ r ≡ take 9 (drop 516 (now (bytes .entry))) ⌝ }
+{
+    let mut order = [0u8; 9];
+    let mut k: usize = 0;
+    while k < 9 {
+        order[k] = bytes[516 + k];
+        k += 1;
+    }
+    order
+}
+
+// The set in a record of the right length.
+pub fn set_of(bytes: &[u8]) -> Set
+    requires { ⌜ length (now bytes) ≡ 528 ⌝ }
+    ensures { λ r. ⌜ r ≡ setOf (now (bytes .entry)) ⌝ }
+{
+    let mut sigmas = [0.0f32; 4];
+    read_floats(bytes, 0, &mut sigmas);
+    let mut scale = [0.0f32; 12];
+    read_floats(bytes, 4, &mut scale);
+    let mut geometry = [0.0f32; 12];
+    read_floats(bytes, 16, &mut geometry);
+    let mut spatial = [0.0f32; 90];
+    read_floats(bytes, 28, &mut spatial);
+    let mut numbers = [0.0f32; 11];
+    read_floats(bytes, 118, &mut numbers);
+    let order = order_of(bytes);
+    Set {
+        sigmas,
+        scale,
+        geometry,
+        spatial,
+        numbers,
+        order,
+    }
+}
+
+// Whether the three spare bytes are 0.
+pub fn is_spare_zero(bytes: &[u8]) -> bool
+    requires { ⌜ length (now bytes) ≡ 528 ⌝ }
+    ensures { λ r. ⌜ r ≡ spareZero (now (bytes .entry)) ⌝ }
+{
+    (bytes[525] == 0) & (bytes[526] == 0) & (bytes[527] == 0)
+}
+
+// The answer to a bad record.
+pub fn refused() -> SetRead
+    ensures { λ r. ⌜ r ≡ refusedSet ⌝ }
+{
+    SetRead {
+        answer: Checked::Bad(Refusal::BadSet),
+        set: Set {
+            sigmas: [0.0; 4],
+            scale: [0.0; 12],
+            geometry: [0.0; 12],
+            spatial: [0.0; 90],
+            numbers: [0.0; 11],
+            order: [0; 9],
+        },
+    }
+}
