@@ -1,0 +1,15 @@
+//! Seeded cases for the detector and its companions; they need nothing of the published text.
+
+pub mod case;
+pub mod edges;
+pub mod maps;
+mod overshoot;
+pub mod random;
+pub mod records;
+pub mod sets;
+mod turning;
+pub mod words;
+
+pub use case::{Case, FAMILIES, Scene, expand};
+pub use edges::{Knob, turn};
+pub use sets::Set;

@@ -1,0 +1,154 @@
+//! Lists of spot records for the join: sound ones, and each field damaged.
+
+use crate::random::Random;
+
+/// The bytes of a spot record.
+pub const SPOT: usize = 40;
+/// The bytes of a sized record.
+pub const SIZED: usize = 52;
+
+/// The bytes of one record from its eight floats, key and four small fields.
+pub fn bytes(floats: [f32; 8], key: u32, small: [u8; 4]) -> [u8; SPOT] {
+    let mut record = [0u8; SPOT];
+    for (place, value) in floats.iter().enumerate() {
+        record[4 * place..4 * place + 4].copy_from_slice(&value.to_le_bytes());
+    }
+    record[32..36].copy_from_slice(&key.to_le_bytes());
+    record[36..40].copy_from_slice(&small);
+    record
+}
+
+/// A record that the join accepts, wherever rows and cols are above 0; `sigmas` guide its sigma.
+fn sound(random: &mut Random, sigmas: &[f32; 4], rows: usize, cols: usize) -> [u8; SPOT] {
+    let key = random.below((rows * cols).max(1));
+    let place = |random: &mut Random, home: usize, side: usize| {
+        let last = side.max(1) as f32 - 1.0;
+        let exact = home as f32 + random.between(-0.6, 0.6);
+        let value = random.pick(&[exact, exact, exact, 0.0, -0.0, last, home as f32]);
+        value.clamp(-0.0, last)
+    };
+    let (x, y) = (
+        place(random, key % cols.max(1), cols),
+        place(random, key / cols.max(1), rows),
+    );
+    let samples = samples(random);
+    let sigma = match random.below(6) {
+        0 => random.finite_pattern(),
+        1 => random.pick(&[0.0, -0.0, -1.0, 1e-45, f32::MAX]),
+        _ => random.between(f64::from(sigmas[0]), f64::from(sigmas[3])),
+    };
+    let peak = if random.once_in(8) { -0.0 } else { samples[1] };
+    let floats = [
+        x, y, sigma, peak, samples[0], samples[1], samples[2], samples[3],
+    ];
+    let small = [
+        random.below(6) as u8,
+        random.from_to(1, 2) as u8,
+        random.below(2) as u8,
+        0,
+    ];
+    bytes(floats, key as u32, small)
+}
+
+/// Four finite samples, often of one sign as a size needs.
+pub fn samples(random: &mut Random) -> [f32; 4] {
+    let sign = if random.once_in(2) { 1.0 } else { -1.0 };
+    let size = match random.below(4) {
+        0 => crate::random::power(random.from_to(0, 60) as i32 - 30),
+        _ => 1.0,
+    };
+    match random.below(8) {
+        0 => core::array::from_fn(|_| random.finite_pattern()),
+        1 => core::array::from_fn(|_| random.between(-1.0, 1.0)),
+        2 => core::array::from_fn(|_| random.from_to(0, 8) as f32 - 4.0),
+        _ => {
+            let middle = f64::from(random.between(0.3, 2.5));
+            let wide = f64::from(random.between(0.5, 4.0));
+            let grain = random.pick(&[0.0, 0.0, 0.01, 0.2]);
+            core::array::from_fn(|k| {
+                let away = k as f64 - middle;
+                let shake = 1.0 + grain * (random.unit() - 0.5);
+                (sign * size * shake / (1.0 + away * away / (wide * wide))) as f32
+            })
+        }
+    }
+}
+
+/// Spoils one field of one record so that the join refuses it.
+fn spoil(random: &mut Random, rows: usize, cols: usize, record: &mut [u8]) {
+    let mut put = |place: usize, value: f32| {
+        record[4 * place..4 * place + 4].copy_from_slice(&value.to_le_bytes());
+    };
+    let below_zero = [-1e-45, -0.5, -1.0];
+    match random.below(7) {
+        0 => put(
+            random.below(8),
+            random.pick(&[f32::NAN, f32::INFINITY, f32::NEG_INFINITY]),
+        ),
+        1 => put(
+            0,
+            random.pick(&[(cols as f32 - 1.0).next_up(), cols as f32, below_zero[0]]),
+        ),
+        2 => put(
+            1,
+            random.pick(&[(rows as f32 - 1.0).next_up(), rows as f32, below_zero[1]]),
+        ),
+        3 => {
+            let key = random.pick(&[(rows * cols) as u32, u32::MAX, (rows * cols) as u32 + 1]);
+            record[32..36].copy_from_slice(&key.to_le_bytes());
+        }
+        4 => record[36] = random.pick(&[6, 7, 255]),
+        5 => record[37] = random.pick(&[0, 3, 255]),
+        _ => {
+            let (place, value) = random.pick(&[(38, 2), (38, 255), (39, 1), (39, 128)]);
+            record[place] = value;
+        }
+    }
+}
+
+/// A list with one damaged record, every record before it sound.
+pub fn damaged(random: &mut Random, sigmas: &[f32; 4], rows: usize, cols: usize) -> Vec<u8> {
+    let mut list = Vec::new();
+    for _ in 0..random.from_to(1, 4) {
+        list.extend_from_slice(&sound(random, sigmas, rows, cols));
+    }
+    let at = list.len() - SPOT;
+    spoil(random, rows, cols, &mut list[at..]);
+    if random.once_in(2) {
+        list.extend_from_slice(&sound(random, sigmas, rows, cols));
+    }
+    if random.once_in(8) {
+        let length = list.len() - random.from_to(1, 39);
+        list.truncate(length);
+    }
+    list
+}
+
+/// A list of records; `bad` says whether to damage it, in a record or in its length.
+pub fn list(
+    random: &mut Random,
+    sigmas: &[f32; 4],
+    rows: usize,
+    cols: usize,
+    bad: bool,
+) -> Vec<u8> {
+    let count = random
+        .pick(&[0, 1, 1, 2, 3, 5, 9, 20])
+        .max(usize::from(bad));
+    let mut list = Vec::new();
+    for _ in 0..count {
+        list.extend_from_slice(&sound(random, sigmas, rows, cols));
+    }
+    if bad {
+        let spoilt = random.pick(&[1, 1, 2]);
+        for _ in 0..spoilt {
+            let at = random.below(count) * SPOT;
+            spoil(random, rows, cols, &mut list[at..at + SPOT]);
+        }
+        if random.once_in(3) {
+            let length = list.len() - random.from_to(1, 39);
+            list.truncate(length);
+        }
+    }
+    list
+}

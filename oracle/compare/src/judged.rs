@@ -1,0 +1,330 @@
+//! The judge as a subject, so that one driver serves every comparison.
+
+use cases::{Scene, Set};
+use judge::{Answer, Logs, Rules, Thresholds, inner, steps};
+use subject::{Reply, Subject};
+
+/// The judge under given rules, by its reference or its streaming pass.
+#[derive(Clone, Copy)]
+pub struct Judge {
+    pub rules: Rules,
+    pub logs: Logs,
+    pub stream: bool,
+}
+
+impl Judge {
+    /// What a subject is measured by: document 01's rules and step lists, the reference pass.
+    pub fn sound() -> Judge {
+        Judge {
+            rules: Rules::Document,
+            logs: Logs::Steps,
+            stream: false,
+        }
+    }
+}
+
+/// The judge's form of a set.
+pub fn set_of(set: &Set) -> judge::Set {
+    judge::Set {
+        sigmas: set.sigmas,
+        scale: set.scale,
+        geometry: set.geometry,
+        spatial: set.spatial,
+        numbers: set.numbers,
+        order: set.order,
+    }
+}
+
+impl Judge {
+    /// A scene's list as the list program prints it.
+    fn printed(&mut self, scene: &Scene) -> Vec<u8> {
+        let mut out = vec![0u8; 80 * scene.rows * scene.cols];
+        match self.detect(scene, &mut out) {
+            Some(Reply::Done(count)) => {
+                let hex = |record: &[u8]| {
+                    record
+                        .iter()
+                        .map(|byte| format!("{byte:02x}"))
+                        .collect::<String>()
+                };
+                let records = out[..40 * count].chunks_exact(40).take(1600);
+                let lines: String = records.map(|record| hex(record) + "\n").collect();
+                format!("{lines}found {count}\n").into_bytes()
+            }
+            Some(Reply::Refused { number, .. }) => format!("refused {number}\n").into_bytes(),
+            None => Vec::new(),
+        }
+    }
+}
+
+/// The scene of a list program's input, if it is whole and its set is good.
+pub fn read_back(input: &[u8]) -> Option<Scene> {
+    let word =
+        |place: usize| -> Option<[u8; 4]> { input.get(4 * place..4 * place + 4)?.try_into().ok() };
+    let whole = |place: usize| Some(u32::from_le_bytes(word(place)?) as usize);
+    let (rows, cols, octave) = (whole(137)?, whole(138)?, whole(139)?);
+    if rows > 60 || cols > 60 || input.len() != 560 + 16 * rows * cols {
+        return None;
+    }
+    let set = from_judge(&judge::Set::from_record(&input[..528])?);
+    let float = |place: usize| word(place).map_or(f32::NAN, f32::from_le_bytes);
+    let size = rows * cols;
+    let levels =
+        core::array::from_fn(|level| (0..size).map(|k| float(140 + level * size + k)).collect());
+    let thresholds = core::array::from_fn(|place| float(132 + place));
+    Some(Scene {
+        set,
+        thresholds,
+        rows,
+        cols,
+        octave,
+        levels,
+    })
+}
+
+/// The cases' form of a judge's set.
+pub fn from_judge(set: &judge::Set) -> Set {
+    Set {
+        sigmas: set.sigmas,
+        scale: set.scale,
+        geometry: set.geometry,
+        spatial: set.spatial,
+        numbers: set.numbers,
+        order: set.order,
+    }
+}
+
+fn reply_of(answer: Answer) -> Reply {
+    match answer {
+        Answer::Done(count) => Reply::Done(count),
+        Answer::Refused { number, index } => Reply::Refused { number, index },
+    }
+}
+
+impl Subject for Judge {
+    fn name(&self) -> String {
+        let pass = if self.stream {
+            "streaming pass"
+        } else {
+            "reference"
+        };
+        format!("the judge's {pass}, {:?} rules", self.rules)
+    }
+
+    fn list_program(&mut self, input: &[u8]) -> Option<Vec<u8>> {
+        match read_back(input) {
+            Some(scene) if self.stream => Some(self.printed(&scene)),
+            _ => Some(judge::list_program(input, true)),
+        }
+    }
+
+    fn detect(&mut self, scene: &Scene, out: &mut [u8]) -> Option<Reply> {
+        let [peak, sigma, ratio, low, high] = scene.thresholds;
+        let thresholds = Thresholds {
+            peak,
+            sigma,
+            ratio,
+            low,
+            high,
+        };
+        let levels = [0, 1, 2, 3].map(|level| scene.levels[level].as_slice());
+        let pass = if self.stream {
+            judge::detect_stream
+        } else {
+            judge::detect
+        };
+        let set = set_of(&scene.set);
+        let answer = pass(
+            self.rules,
+            &set,
+            thresholds,
+            scene.rows,
+            scene.cols,
+            scene.octave,
+            levels,
+            out,
+        );
+        Some(reply_of(answer))
+    }
+
+    fn join(
+        &mut self,
+        set: &Set,
+        rows: usize,
+        cols: usize,
+        list: &[u8],
+        out: &mut [u8],
+    ) -> Option<Reply> {
+        Some(reply_of(judge::join(
+            self.logs,
+            &set_of(set),
+            rows,
+            cols,
+            list,
+            out,
+        )))
+    }
+
+    fn correct(
+        &mut self,
+        set: &Set,
+        samples: [f32; 4],
+        sigma: f32,
+        is_max: bool,
+    ) -> Option<Result<f32, u32>> {
+        Some(judge::correct(
+            self.rules,
+            self.logs,
+            &set_of(set),
+            samples,
+            sigma,
+            is_max,
+        ))
+    }
+
+    fn octave_count(&mut self, rows: usize, cols: usize) -> Option<usize> {
+        Some(judge::octave_count_rule(rows, cols))
+    }
+
+    fn downsample(
+        &mut self,
+        rows: usize,
+        cols: usize,
+        level: &[f32],
+        out: &mut [f32],
+    ) -> Option<Result<(usize, usize), u32>> {
+        Some(judge::downsample(rows, cols, level, out))
+    }
+
+    fn read_set(&mut self, bytes: &[u8]) -> Option<Result<(), u32>> {
+        Some(judge::Set::from_record(bytes).map(|_| ()).ok_or(4))
+    }
+
+    fn inner(&mut self, function: &str, set: &Set, words: &[f32]) -> Option<Vec<f32>> {
+        let set = set_of(set);
+        helper(function, words)
+            .or_else(|| scale_fit(self.rules, function, &set, words))
+            .or_else(|| profile(self.rules, function, &set, words))
+    }
+}
+
+fn bit(value: bool) -> f32 {
+    if value { 1.0 } else { 0.0 }
+}
+
+fn four(words: &[f32]) -> [f32; 4] {
+    core::array::from_fn(|place| words[place])
+}
+
+/// The float helpers, by document 01's words and the machine's own root.
+fn helper(function: &str, words: &[f32]) -> Option<Vec<f32>> {
+    let left_unless = |other_wins: bool| if other_wins { words[1] } else { words[0] };
+    let each = |helper: fn(f32) -> f32| Some(words.iter().map(|&word| helper(word)).collect());
+    Some(vec![match function {
+        "log2" => return each(steps::log2),
+        "exp" => return each(steps::exp),
+        "sqrt" => return each(f32::sqrt),
+        "abs" => return each(f32::abs),
+        "is_finite" => return each(|word| bit(word.is_finite())),
+        "min" => left_unless(words[0].is_nan() || words[1] < words[0]),
+        "max" => left_unless(words[0].is_nan() || words[1] > words[0]),
+        "clamp" if words[0] < words[1] => words[1],
+        "clamp" if words[0] > words[2] => words[2],
+        "clamp" => words[0],
+        _ => return None,
+    }])
+}
+
+fn scale_fit(rules: Rules, function: &str, set: &judge::Set, words: &[f32]) -> Option<Vec<f32>> {
+    Some(match function {
+        "compute_poly_coeffs" => inner::compute_poly_coeffs(rules, set, four(words)).to_vec(),
+        "geometry_poly_coeffs" => inner::geometry_poly_coeffs(rules, set, four(words)).to_vec(),
+        "horner" => vec![inner::horner(rules, set, four(words), words[4])],
+        "neighbor_scale_band" => {
+            let (low, high) = inner::neighbor_scale_band(rules, set, words[0]);
+            vec![low, high]
+        }
+        "band_extreme" => {
+            let is_max = words[6] == 1.0;
+            vec![inner::band_extreme(
+                rules,
+                set,
+                four(words),
+                words[4],
+                words[5],
+                is_max,
+            )]
+        }
+        "owns_scale_extremum" => {
+            vec![bit(inner::owns_scale_extremum(
+                rules,
+                set,
+                four(words),
+                words[4] == 1.0,
+            ))]
+        }
+        "scale_envelope" => {
+            <[f32; 4]>::from(inner::scale_envelope(rules, set, four(words))).to_vec()
+        }
+        "polynomial_extrema" => {
+            let extrema = inner::polynomial_extrema(rules, set, four(words), words[4], words[5]);
+            <[f32; 4]>::from(extrema).to_vec()
+        }
+        "get_q_scale_index" => vec![inner::get_q_scale_index(rules, set, words[0]) as f32],
+        "fit_spatial_quadratic" => {
+            let samples = core::array::from_fn(|place| words[1 + place]);
+            inner::fit_spatial_quadratic(rules, set, words[0] as usize, samples).to_vec()
+        }
+        "refine_keypoint_2d" => refine(rules, set, words),
+        _ => return None,
+    })
+}
+
+/// x, y, sigma, peak, scale index, polarity, ratio limit, 36 coefficients; gives acceptance and the spot after.
+fn refine(rules: Rules, set: &judge::Set, words: &[f32]) -> Vec<f32> {
+    let mut spot = inner::Spot {
+        x: words[0],
+        y: words[1],
+        sigma: words[2],
+        peak: words[3],
+        scale_index: words[4] as usize,
+        is_max: words[5] == 1.0,
+    };
+    let cubics = core::array::from_fn(|place| four(&words[7 + 4 * place..]));
+    let accepted = inner::refine_keypoint_2d(rules, set, &mut spot, &cubics, words[6]);
+    let index = spot.scale_index as f32;
+    vec![
+        bit(accepted),
+        spot.x,
+        spot.y,
+        spot.sigma,
+        spot.peak,
+        index,
+        bit(spot.is_max),
+    ]
+}
+
+fn profile(rules: Rules, function: &str, set: &judge::Set, words: &[f32]) -> Option<Vec<f32>> {
+    Some(match function {
+        "profile_compatibility_statistic" => {
+            let statistic = inner::profile_compatibility_statistic(rules, set, four(words));
+            statistic.into_iter().collect()
+        }
+        "profile_beta_from_statistic" => {
+            vec![inner::profile_beta_from_statistic(
+                rules,
+                set,
+                words.first().copied(),
+            )]
+        }
+        "profile_blend_beta" => vec![inner::profile_blend_beta(rules, set, four(words))],
+        "profile_bounded_move" => vec![inner::profile_bounded_move(rules, set, words[0], words[1])],
+        "profile_model_move" => {
+            let [beta, a, derivative, curvature] = four(words);
+            vec![inner::profile_model_move(
+                rules, set, beta, a, derivative, curvature, words[4],
+            )]
+        }
+        _ => return None,
+    })
+}

@@ -1,0 +1,235 @@
+//! The driver: runs cases and compares a subject with the judge byte for byte.
+
+mod judged;
+mod own;
+mod plan;
+mod search;
+mod tally;
+
+use cases::{Knob, expand, turn};
+use judged::Judge;
+use std::process::ExitCode;
+use std::time::Instant;
+use subject::process::Process;
+use subject::stored::{read, replay, write};
+use subject::{Subject, answer, difference};
+use tally::Tally;
+
+const USE: &str = "use: compare own [SEED [TIMES]]
+     compare tally [SEED [TIMES]]
+     compare run SEED TIMES PROGRAM [ARGUMENTS]
+     compare one FAMILY SEED NUMBER [PLACE VALUE_BITS] [-- PROGRAM [ARGUMENTS]]
+     compare store FILE [SEED]
+     compare stored FILE";
+
+/// The seed of the bounded run and of the stored list.
+const SEED: u64 = 1;
+
+fn main() -> ExitCode {
+    let arguments: Vec<String> = std::env::args().skip(1).collect();
+    let words: Vec<&str> = arguments.iter().map(String::as_str).collect();
+    let number = |place: usize, default: u64| {
+        words
+            .get(place)
+            .map_or(default, |word| word.parse().expect(USE))
+    };
+    let sound = match words.first().copied() {
+        Some("own") => own(number(1, SEED), number(2, 1) as usize),
+        Some("tally") => tally(number(1, SEED), number(2, 1) as usize),
+        Some("run") if words.len() > 3 => {
+            run(number(1, SEED), number(2, 1) as usize, &arguments[3..])
+        }
+        Some("one") if words.len() > 3 => one(&words[1..]),
+        Some("store") if words.len() > 1 => store(words[1], number(2, SEED)),
+        Some("stored") if words.len() > 1 => stored(words[1]),
+        _ => {
+            eprintln!("{USE}");
+            return ExitCode::from(2);
+        }
+    };
+    if sound {
+        ExitCode::SUCCESS
+    } else {
+        ExitCode::FAILURE
+    }
+}
+
+/// Every comparison that needs no subject.
+fn own(seed: u64, times: usize) -> bool {
+    let mut sound = own::octaves();
+    sound &= own::envelopes(seed, times);
+    sound &= own::builds(seed, times);
+    sound &= own::passes(seed, times);
+    own::logarithms(seed, times);
+    sound
+}
+
+/// What the cases reach; a gate that rejects nothing is told.
+fn tally(seed: u64, times: usize) -> bool {
+    judge::reset_counts();
+    let mut tally = Tally::default();
+    let mut judge = Judge::sound();
+    for family in plan::families() {
+        plan::each(family, seed, times, |one| {
+            if let Some(sound) = answer(&mut judge, &one.case) {
+                tally.add(family, &one.case, &sound);
+            }
+        });
+    }
+    tally.print();
+    let quiet: Vec<&str> = judge::counts()
+        .iter()
+        .filter(|gate| gate.1 == 0)
+        .map(|gate| gate.0)
+        .collect();
+    let expected = ["extra admission test"];
+    let holes: Vec<&&str> = quiet
+        .iter()
+        .filter(|gate| !expected.contains(gate))
+        .collect();
+    let fault = (!holes.is_empty()).then(|| format!("no case is rejected by: {holes:?}"));
+    let admitted = quiet.contains(&"extra admission test");
+    let fired = (!admitted).then(|| "it fires".to_string());
+    own::told(
+        "every-gate-rejects",
+        fault,
+        "the extra admission test aside",
+    ) & own::told(
+        "extra-admission-test-never-fires",
+        fired,
+        "over all these cases",
+    )
+}
+
+/// A list program against the judge.
+fn run(seed: u64, times: usize, command: &[String]) -> bool {
+    let mut subject = Process::new(command.to_vec());
+    let mut judge = Judge::sound();
+    let mut all_sound = true;
+    for family in plan::families() {
+        let begun = Instant::now();
+        let (mut compared, mut differing, mut fault) = (0, 0, None);
+        plan::each(family, seed, times, |one| {
+            let Some(given) = answer(&mut subject, &one.case) else {
+                return;
+            };
+            let sound = answer(&mut judge, &one.case).unwrap_or_default();
+            compared += 1;
+            if sound != given {
+                differing += 1;
+                let knob = one.knob.map_or(String::new(), |k| {
+                    format!(" {} {:08x}", k.place, k.value.to_bits())
+                });
+                let told = || {
+                    format!(
+                        "{family} {seed} {}{knob}: {}",
+                        one.number,
+                        difference(&sound, &given)
+                    )
+                };
+                fault.get_or_insert_with(told);
+            }
+        });
+        if compared > 0 {
+            let seconds = begun.elapsed().as_secs_f64();
+            let seen = format!("{compared} cases, {differing} differ, {seconds:.1} s");
+            all_sound &= own::told(&format!("compare-{family}"), fault, &seen);
+        }
+    }
+    all_sound
+}
+
+/// One case alone: the judge's answer, and a program's beside it.
+fn one(words: &[&str]) -> bool {
+    let split = words
+        .iter()
+        .position(|&word| word == "--")
+        .unwrap_or(words.len());
+    let (named, program) = words.split_at(split);
+    let (seed, number) = (named[1].parse().expect(USE), named[2].parse().expect(USE));
+    let case = match named.get(3..5) {
+        Some([place, bits]) => {
+            let value = f32::from_bits(u32::from_str_radix(bits, 16).expect(USE));
+            turn(
+                named[0],
+                seed,
+                number,
+                Knob {
+                    place: place.parse().expect(USE),
+                    value,
+                },
+            )
+        }
+        _ => expand(named[0], seed, number),
+    };
+    println!("{case:?}");
+    let mut judge = Judge::sound();
+    let sound = answer(&mut judge, &case).unwrap_or_default();
+    println!(
+        "{}: {}",
+        judge.name(),
+        String::from_utf8_lossy(&sound).escape_debug()
+    );
+    let command: Vec<String> = program
+        .iter()
+        .skip(1)
+        .map(|word| word.to_string())
+        .collect();
+    if command.is_empty() {
+        return true;
+    }
+    let mut subject = Process::new(command);
+    match answer(&mut subject, &case) {
+        Some(given) if given == sound => println!("{}: the same", subject.name()),
+        Some(given) => {
+            println!("{}: {}", subject.name(), difference(&sound, &given));
+            return false;
+        }
+        None => println!("{} does not offer it", subject.name()),
+    }
+    true
+}
+
+/// Writes the stored list.
+fn store(path: &str, seed: u64) -> bool {
+    let sections: Vec<_> = plan::families()
+        .map(|family| plan::section(family, seed))
+        .collect();
+    for section in &sections {
+        println!("{}: {} cases", section.family, section.entries.len());
+    }
+    let bytes = write(&sections);
+    println!("{} bytes", bytes.len());
+    std::fs::write(path, bytes).unwrap_or_else(|error| panic!("{path}: {error}"));
+    true
+}
+
+/// The judge as built now against the stored list; the streaming pass against its maps too.
+fn stored(path: &str) -> bool {
+    let bytes = std::fs::read(path).unwrap_or_else(|error| panic!("{path}: {error}"));
+    let sections = read(&bytes).unwrap_or_else(|| panic!("{path} is no stored list"));
+    let mut all_sound = true;
+    for section in &sections {
+        for stream in [false, true] {
+            let maps = ["list", "detect", "sized", "wide", "steep", "edge"];
+            if stream && !maps.contains(&section.family.as_str()) {
+                continue;
+            }
+            let outcome = replay(
+                section,
+                &mut Judge {
+                    stream,
+                    ..Judge::sound()
+                },
+            );
+            let pass = if stream { "-streaming" } else { "" };
+            let seen = format!("{} cases, {} differ", outcome.asked, outcome.differing);
+            all_sound &= own::told(
+                &format!("stored-{}{pass}", section.family),
+                outcome.first,
+                &seen,
+            );
+        }
+    }
+    all_sound
+}

@@ -1,0 +1,94 @@
+//! How many cases of each family a run takes, and the stored list made from the same families.
+
+use crate::judged::Judge;
+use crate::search;
+use cases::{Case, Knob, expand, turn};
+use subject::answer;
+use subject::stored::{Entry, Kept, Section};
+
+/// Cases of a family in a bounded run and in the stored list.
+pub const COUNTS: [(&str, usize); 15] = [
+    ("list", 3000),
+    ("detect", 1800),
+    ("join", 1200),
+    ("sized", 900),
+    ("correct", 12_000),
+    ("octaves", 140),
+    ("downsample", 480),
+    ("reader", 400),
+    ("inner", 24 * 1000),
+    ("wide", 7),
+    ("turning", 3200),
+    ("overshoot", 12_000),
+    ("records", 800),
+    ("floats", 4000),
+    ("steep", 60),
+];
+
+/// Scenes and corrections that are searched for edges, with the tries at each.
+pub const SEARCHES: [(&str, usize, usize); 2] = [("edge", 3000, 2), ("size-edge", 4000, 2)];
+
+/// One case with what reruns it.
+pub struct Numbered {
+    pub number: usize,
+    pub knob: Option<Knob>,
+    pub case: Case,
+}
+
+/// Every case of a family under a seed, `times` the bounded number, handed on one by one.
+pub fn each(family: &str, seed: u64, times: usize, mut take: impl FnMut(Numbered)) {
+    if let Some(&(_, count)) = COUNTS.iter().find(|entry| entry.0 == family) {
+        for number in 0..count * times {
+            take(Numbered {
+                number,
+                knob: None,
+                case: expand(family, seed, number),
+            });
+        }
+    }
+    if let Some(&(_, count, tries)) = SEARCHES.iter().find(|entry| entry.0 == family) {
+        let search = if family == "edge" {
+            search::scene_edges
+        } else {
+            search::size_edges
+        };
+        for number in 0..count * times {
+            for knob in search(seed, number, tries) {
+                let case = turn(family, seed, number, knob);
+                take(Numbered {
+                    number,
+                    knob: Some(knob),
+                    case,
+                });
+            }
+        }
+    }
+}
+
+/// The families' names, edges last.
+pub fn families() -> impl Iterator<Item = &'static str> {
+    COUNTS
+        .iter()
+        .map(|entry| entry.0)
+        .chain(SEARCHES.iter().map(|entry| entry.0))
+}
+
+/// The sound answers to a family's cases, as they are stored.
+pub fn section(family: &str, seed: u64) -> Section {
+    let mut entries = Vec::new();
+    let mut judge = Judge::sound();
+    each(family, seed, 1, |one| {
+        let sound = answer(&mut judge, &one.case)
+            .unwrap_or_else(|| panic!("no answer to {family} {}", one.number));
+        entries.push(Entry {
+            number: one.number,
+            knob: one.knob,
+            kept: Kept::of(&sound),
+        });
+    });
+    Section {
+        family: family.to_string(),
+        seed,
+        entries,
+    }
+}

@@ -1,0 +1,186 @@
+//! Finds edges with the judge: the two neighbouring values of one float at which a spot or a size appears.
+
+use crate::judged::Judge;
+use cases::edges::{self, PIXELS, SET, scene_float, turned_correction};
+use cases::random::Random;
+use cases::{Case, Knob, Scene};
+use subject::{Reply, Subject};
+
+/// A float's place among all floats, in order.
+fn rank(value: f32) -> i64 {
+    let bits = i64::from(value.to_bits() & 0x7fff_ffff);
+    if value.is_sign_negative() {
+        -bits
+    } else {
+        bits
+    }
+}
+
+fn at_rank(rank: i64) -> f32 {
+    let size = f32::from_bits(rank.unsigned_abs() as u32);
+    if rank < 0 { -size } else { size }
+}
+
+/// The neighbouring values between `held` and `lost` at which the test turns.
+fn turning(held: f32, lost: f32, mut holds: impl FnMut(f32) -> bool) -> (f32, f32) {
+    let (mut held, mut lost) = (rank(held), rank(lost));
+    while (held - lost).abs() > 1 {
+        let middle = (held + lost) / 2;
+        if holds(at_rank(middle)) {
+            held = middle;
+        } else {
+            lost = middle;
+        }
+    }
+    (at_rank(held), at_rank(lost))
+}
+
+/// The keys and polarities that a scene lists.
+pub fn listed(scene: &Scene) -> Vec<(u32, u8)> {
+    let mut out = vec![0u8; 80 * scene.rows * scene.cols];
+    match Judge::sound().detect(scene, &mut out) {
+        Some(Reply::Done(count)) => out[..40 * count]
+            .chunks_exact(40)
+            .map(key_and_polarity)
+            .collect(),
+        _ => Vec::new(),
+    }
+}
+
+fn key_and_polarity(record: &[u8]) -> (u32, u8) {
+    (
+        u32::from_le_bytes([record[32], record[33], record[34], record[35]]),
+        record[38],
+    )
+}
+
+/// A place to turn, with values that may lose the spot.
+fn scene_place(random: &mut Random, scene: &mut Scene, key: u32) -> (usize, Vec<f32>) {
+    let place = match random.below(10) {
+        0..=2 => random.below(5),
+        3 => SET + 4 + random.below(12),
+        4..=6 => SET + 28 + random.below(90),
+        _ => {
+            let (row, col) = (key as usize / scene.cols, key as usize % scene.cols);
+            let down = random.below(5) as isize - 2;
+            let right = random.below(5) as isize - 2;
+            let row = (row as isize + down) as usize;
+            let col = (col as isize + right) as usize;
+            PIXELS + random.below(4) * scene.rows * scene.cols + col * scene.rows + row
+        }
+    };
+    let value = *scene_float(scene, place);
+    (place, ways_out(random, value))
+}
+
+/// Values away from the present one, near and far, both ways.
+fn ways_out(random: &mut Random, value: f32) -> Vec<f32> {
+    let step = value.abs().max(1e-3);
+    let mut ways = vec![
+        value + step,
+        value - step,
+        value + 30.0 * step,
+        value - 30.0 * step,
+        0.0,
+        f32::MAX,
+        f32::MIN,
+    ];
+    let turn = random.below(ways.len());
+    ways.rotate_left(turn);
+    ways
+}
+
+/// The knobs of both sides of some edges of the scene with this seed and number.
+pub fn scene_edges(seed: u64, number: usize, tries: usize) -> Vec<Knob> {
+    let random = &mut Random::new(seed, 200, number as u64);
+    let mut scene = edges::scene(seed, number);
+    let spots = listed(&scene);
+    let mut knobs = Vec::new();
+    if spots.is_empty() {
+        return knobs;
+    }
+    for _ in 0..tries {
+        let spot = random.pick(&spots);
+        let (place, ways) = scene_place(random, &mut scene, spot.0);
+        let value = *scene_float(&mut scene, place);
+        let mut holds = |value: f32| {
+            *scene_float(&mut scene, place) = value;
+            listed(&scene).contains(&spot)
+        };
+        if let Some(&lost) = ways.iter().find(|&&way| !holds(way)) {
+            let (inside, outside) = turning(value, lost, &mut holds);
+            knobs.extend([inside, outside].map(|value| Knob {
+                place: place as u32,
+                value,
+            }));
+        }
+        *scene_float(&mut scene, place) = value;
+    }
+    knobs
+}
+
+fn sized(case: &Case) -> bool {
+    let Case::Correct {
+        set,
+        samples,
+        sigma,
+        is_max,
+    } = case
+    else {
+        return false;
+    };
+    matches!(
+        Judge::sound().correct(set, *samples, *sigma, *is_max),
+        Some(Ok(_))
+    )
+}
+
+/// The knobs of both sides of some edges of the correction with this seed and number.
+pub fn size_edges(seed: u64, number: usize, tries: usize) -> Vec<Knob> {
+    let random = &mut Random::new(seed, 201, number as u64);
+    let case = edges::correction(seed, number);
+    let (
+        Case::Correct {
+            set,
+            samples,
+            sigma,
+            ..
+        },
+        true,
+    ) = (&case, sized(&case))
+    else {
+        return Vec::new();
+    };
+    let mut knobs = Vec::new();
+    for _ in 0..tries {
+        let place = match random.below(3) {
+            0 => random.below(5),
+            1 => SET + 16 + random.below(12),
+            _ => SET + 118 + random.below(11),
+        };
+        let value = match place {
+            0..=3 => samples[place],
+            4 => *sigma,
+            _ => *set.clone().float(place - SET),
+        };
+        let turned = |value: f32| {
+            turned_correction(
+                seed,
+                number,
+                Knob {
+                    place: place as u32,
+                    value,
+                },
+            )
+        };
+        let ways = ways_out(random, value);
+        if let Some(&lost) = ways.iter().find(|&&way| !sized(&turned(way))) {
+            let (inside, outside) = turning(value, lost, |value| sized(&turned(value)));
+            knobs.extend([inside, outside].map(|value| Knob {
+                place: place as u32,
+                value,
+            }));
+        }
+    }
+    knobs
+}

@@ -1,0 +1,103 @@
+//! What a run of cases has reached: maps, spots, pixels with both polarities, spots at sigma 0, each gate's rejections.
+
+use cases::{Case, Scene};
+use std::collections::BTreeMap;
+
+/// Counts over a run.
+#[derive(Default)]
+pub struct Tally {
+    cases: BTreeMap<String, usize>,
+    refusals: BTreeMap<String, usize>,
+    maps: usize,
+    with_spot: usize,
+    spots: usize,
+    both: usize,
+    at_sigma_zero: usize,
+}
+
+impl Tally {
+    /// Counts a case and the judge's answer to it.
+    pub fn add(&mut self, family: &str, case: &Case, answer: &[u8]) {
+        *self.cases.entry(family.to_string()).or_default() += 1;
+        let text = String::from_utf8_lossy(&answer[..answer.len().min(24)]).into_owned();
+        if text.starts_with("refused") {
+            let number: String = text
+                .split([' ', ':', '\n'])
+                .take(2)
+                .collect::<Vec<_>>()
+                .join(" ");
+            *self
+                .refusals
+                .entry(format!("{family} {number}"))
+                .or_default() += 1;
+            return;
+        }
+        match case {
+            Case::List { .. } => self.add_list(answer),
+            Case::Detect { scene, .. } | Case::Sized { scene } => self.add_scene(scene),
+            _ => {}
+        }
+    }
+
+    fn add_list(&mut self, answer: &[u8]) {
+        let text = String::from_utf8_lossy(answer);
+        let lines: Vec<&str> = text.lines().collect();
+        let count = lines.last().and_then(|line| line.strip_prefix("found "));
+        let Some(count) = count.and_then(|count| count.parse().ok()) else {
+            return;
+        };
+        let word =
+            |line: &str, from: usize| u32::from_str_radix(&line[from..from + 8], 16).unwrap_or(0);
+        let records: Vec<(u32, u32)> = lines[..lines.len() - 1]
+            .iter()
+            .map(|line| (word(line, 64), word(line, 16)))
+            .collect();
+        self.add_records(count, &records);
+    }
+
+    fn add_scene(&mut self, scene: &Scene) {
+        let mut out = vec![0u8; 80 * scene.rows * scene.cols];
+        let mut judge = crate::judged::Judge::sound();
+        let reply = subject::Subject::detect(&mut judge, scene, &mut out);
+        if let Some(subject::Reply::Done(count)) = reply {
+            let word = |record: &[u8], from: usize| {
+                u32::from_be_bytes(core::array::from_fn(|place| record[from + place]))
+            };
+            let records: Vec<(u32, u32)> = out[..40 * count]
+                .chunks_exact(40)
+                .map(|record| (word(record, 32), word(record, 8)))
+                .collect();
+            self.add_records(count, &records);
+        }
+    }
+
+    /// Records by their key and sigma, both as they stand in the bytes.
+    fn add_records(&mut self, count: usize, records: &[(u32, u32)]) {
+        self.maps += 1;
+        self.with_spot += usize::from(count > 0);
+        self.spots += count;
+        self.both += records
+            .windows(2)
+            .filter(|pair| pair[0].0 == pair[1].0)
+            .count();
+        self.at_sigma_zero += records.iter().filter(|record| record.1 == 0).count();
+    }
+
+    /// Prints the counts and the judge's gates.
+    pub fn print(&self) {
+        for (family, count) in &self.cases {
+            println!("cases {family}: {count}");
+        }
+        for (name, count) in &self.refusals {
+            println!("{name}: {count}");
+        }
+        println!("maps: {}", self.maps);
+        println!("maps with a spot: {}", self.with_spot);
+        println!("spots: {}", self.spots);
+        println!("pixels with both: {}", self.both);
+        println!("spots at sigma 0: {}", self.at_sigma_zero);
+        for (gate, count) in judge::counts() {
+            println!("rejected, {gate}: {count}");
+        }
+    }
+}

@@ -1,0 +1,394 @@
+//! Builds the published text twice: as it stands, for a few sets of real constants, and with the set read at run time.
+
+use std::env;
+use std::fmt::Write as _;
+use std::fs;
+use std::path::{Path, PathBuf};
+use substitutions::{How, Substitution};
+
+#[path = "src/fixed_sets.rs"]
+mod fixed_sets;
+#[path = "src/sha256.rs"]
+mod sha256;
+mod substitutions;
+
+const PUBLISHED_NAME: &str = "src--crates--openmvg-features--src--extraction--alp--";
+const PUBLISHED: [&str; 3] = ["scale_fit.rs", "reference.rs", "stream.rs"];
+const DOCUMENT: [&str; 7] = [
+    "admission.rs",
+    "counting.rs",
+    "entries.rs",
+    "here.rs",
+    "list.rs",
+    "record.rs",
+    "steps.rs",
+];
+
+/// A deliberate break: in `file`, `old` stands once and becomes `new`.
+struct Break {
+    name: String,
+    file: String,
+    old: String,
+    new: String,
+}
+
+fn main() {
+    let crate_folder = PathBuf::from(env::var("CARGO_MANIFEST_DIR").unwrap());
+    let out = PathBuf::from(env::var("OUT_DIR").unwrap());
+    println!("cargo:rustc-cfg=feature=\"std\"");
+    for name in ["URAMSHEG_PUBLISHED", "JUDGE_BREAK", "JUDGE_BREAKS"] {
+        println!("cargo:rerun-if-env-changed={name}");
+    }
+    for name in ["build.rs", "substitutions.rs", "src"] {
+        println!("cargo:rerun-if-changed={name}");
+    }
+    let published = published_folder(&crate_folder);
+    let source = |file: &str| {
+        if PUBLISHED.contains(&file) {
+            published.join(format!("{PUBLISHED_NAME}{file}.txt"))
+        } else {
+            crate_folder.join("src/document").join(file)
+        }
+    };
+    let broken = chosen_break(&crate_folder, &source);
+    let mut text = String::new();
+    writeln!(
+        text,
+        "pub const BROKEN: Option<&str> = {:?};",
+        broken.as_ref().map(|b| &b.name)
+    )
+    .unwrap();
+    write_digests(&mut text, &source);
+    write_document(&mut text, &out, &source, broken.as_ref());
+    write_fixed(&mut text, &crate_folder, &out, &source, broken.as_ref());
+    write_run(&mut text, &crate_folder, &out, &source, broken.as_ref());
+    fs::write(out.join("generated.rs"), text).unwrap();
+}
+
+fn published_folder(crate_folder: &Path) -> PathBuf {
+    let folder = match env::var_os("URAMSHEG_PUBLISHED") {
+        Some(folder) => PathBuf::from(folder),
+        None => crate_folder.join("../../../shared/docs"),
+    };
+    match folder.canonicalize() {
+        Ok(folder) => folder,
+        Err(_) => panic!(
+            "the published text is not at {}: set URAMSHEG_PUBLISHED to its folder",
+            folder.display()
+        ),
+    }
+}
+
+fn read(path: &Path) -> String {
+    println!("cargo:rerun-if-changed={}", path.display());
+    fs::read_to_string(path).unwrap_or_else(|error| panic!("{}: {error}", path.display()))
+}
+
+/// Reads every break, checks that each old text stands once, and gives the one that JUDGE_BREAK names.
+fn chosen_break(crate_folder: &Path, source: &dyn Fn(&str) -> PathBuf) -> Option<Break> {
+    let path =
+        env::var_os("JUDGE_BREAKS").map_or_else(|| crate_folder.join("breaks.txt"), PathBuf::from);
+    let number: usize = match env::var("JUDGE_BREAK") {
+        Ok(number) if !number.is_empty() => number.parse().expect("JUDGE_BREAK is no number"),
+        _ => 0,
+    };
+    let mut breaks = parse_breaks(&read(&path));
+    for (index, entry) in breaks.iter().enumerate() {
+        let times = read(&source(&entry.file)).matches(&entry.old).count();
+        assert!(
+            times == 1,
+            "break {} ({}): its old text stands {times} times",
+            index + 1,
+            entry.name
+        );
+    }
+    assert!(
+        number <= breaks.len(),
+        "JUDGE_BREAK is {number}, there are {} breaks",
+        breaks.len()
+    );
+    (number > 0).then(|| breaks.swap_remove(number - 1))
+}
+
+/// Lines `# name`, `file: `, `old: `, `new: `; in the last two \n is a line's end.
+fn parse_breaks(text: &str) -> Vec<Break> {
+    let mut breaks: Vec<Break> = Vec::new();
+    for line in text.lines().filter(|line| !line.trim().is_empty()) {
+        if let Some(name) = line.strip_prefix("# ") {
+            let empty = String::new;
+            breaks.push(Break {
+                name: name.into(),
+                file: empty(),
+                old: empty(),
+                new: empty(),
+            });
+            continue;
+        }
+        let entry = breaks.last_mut().expect("breaks.txt opens with a name");
+        let (key, value) = line
+            .split_once(':')
+            .unwrap_or_else(|| panic!("breaks.txt: {line}"));
+        let value = value
+            .strip_prefix(' ')
+            .unwrap_or(value)
+            .replace("\\n", "\n");
+        match key {
+            "file" => entry.file = value.trim().into(),
+            "old" => entry.old = value,
+            "new" => entry.new = value,
+            _ => panic!("breaks.txt: {line}"),
+        }
+    }
+    breaks
+}
+
+fn write_digests(text: &mut String, source: &dyn Fn(&str) -> PathBuf) {
+    let digests = PUBLISHED.map(|file| (file, sha256::hex(read(&source(file)).as_bytes())));
+    writeln!(
+        text,
+        "pub const PUBLISHED: [(&str, &str); 3] = {digests:?};"
+    )
+    .unwrap();
+}
+
+/// The crate's own files that can be broken: in place, or the one broken copy.
+fn write_document(
+    text: &mut String,
+    out: &Path,
+    source: &dyn Fn(&str) -> PathBuf,
+    broken: Option<&Break>,
+) {
+    for file in DOCUMENT {
+        let mut path = source(file);
+        if let Some(entry) = broken.filter(|entry| entry.file == file) {
+            let sound = read(&path);
+            path = out.join(file);
+            fs::write(&path, sound.replacen(&entry.old, &entry.new, 1)).unwrap();
+        }
+        let name = file.trim_end_matches(".rs");
+        let seen = if file == "steps.rs" {
+            "pub"
+        } else {
+            "pub(crate)"
+        };
+        writeln!(text, "#[path = {path:?}]\n{seen} mod {name};").unwrap();
+    }
+}
+
+const ALLOWED: &str =
+    "#[allow(dead_code, unused_imports, unused_variables, unreachable_code, clippy::all)]";
+
+fn write_fixed(
+    text: &mut String,
+    crate_folder: &Path,
+    out: &Path,
+    source: &dyn Fn(&str) -> PathBuf,
+    broken: Option<&Break>,
+) {
+    writeln!(text, "mod fixed_builds {{").unwrap();
+    if broken.is_some() {
+        for name in fixed_sets::NAMES {
+            writeln!(text, "pub(crate) use crate::run as {name};").unwrap();
+        }
+        writeln!(text, "}}").unwrap();
+        return;
+    }
+    for (index, name) in fixed_sets::NAMES.iter().enumerate() {
+        let set = fixed_sets::by_index(index);
+        let (tables, geometry) = (
+            out.join(format!("{name}_tables.rs")),
+            out.join(format!("{name}_geometry.rs")),
+        );
+        fs::write(&tables, tables_of(&set)).unwrap();
+        fs::write(&geometry, geometry_tables_of(&set)).unwrap();
+        let mut modules = vec![("tables", tables), ("geometry_tables", geometry)];
+        modules.extend(PUBLISHED.map(|file| (file.trim_end_matches(".rs"), source(file))));
+        write_build(text, name, crate_folder, &modules, &["offered"]);
+    }
+    writeln!(text, "}}").unwrap();
+}
+
+fn write_run(
+    text: &mut String,
+    crate_folder: &Path,
+    out: &Path,
+    source: &dyn Fn(&str) -> PathBuf,
+    broken: Option<&Break>,
+) {
+    let substitutions = [
+        substitutions::SCALE_FIT,
+        substitutions::REFERENCE,
+        substitutions::STREAM,
+    ];
+    let mut modules = Vec::new();
+    for (file, list) in PUBLISHED.iter().zip(substitutions) {
+        let mut rewritten = cut(file, read(&source(file)));
+        let mut sound = rewritten.clone();
+        if let Some(entry) = broken.filter(|entry| entry.file == *file) {
+            assert!(
+                rewritten.contains(&entry.old),
+                "break {}: its place is cut away",
+                entry.name
+            );
+            rewritten = rewritten.replacen(&entry.old, &entry.new, 1);
+        }
+        for one in list {
+            let times = substitute(&mut sound, one);
+            assert!(
+                times == one.times,
+                "{file}: {:?} stands {times} times, not {}",
+                one.old,
+                one.times
+            );
+            substitute(&mut rewritten, one);
+        }
+        let path = out.join(format!("run_{file}"));
+        fs::write(&path, rewritten).unwrap();
+        modules.push((file.trim_end_matches(".rs"), path));
+    }
+    write_build(text, "run", crate_folder, &modules, &["offered", "inner"]);
+}
+
+/// One build: modules of published text, and the crate's own that look inside them.
+fn write_build(
+    text: &mut String,
+    name: &str,
+    crate_folder: &Path,
+    modules: &[(&str, PathBuf)],
+    own: &[&str],
+) {
+    writeln!(
+        text,
+        "pub(crate) mod {name} {{\nuse crate::shims::{{GrayImage, blur, octave_dedup}};"
+    )
+    .unwrap();
+    for (module, path) in modules {
+        writeln!(
+            text,
+            "{ALLOWED}\n#[path = {path:?}]\npub(crate) mod {module};"
+        )
+        .unwrap();
+    }
+    for module in own {
+        let path = crate_folder.join(format!("src/{module}.rs"));
+        writeln!(
+            text,
+            "#[allow(dead_code)]\n#[path = {path:?}]\npub mod {module};"
+        )
+        .unwrap();
+    }
+    writeln!(text, "}}").unwrap();
+}
+
+fn cut(file: &str, mut text: String) -> String {
+    if file == "stream.rs" {
+        let places: Vec<usize> = text
+            .match_indices(substitutions::STREAM_CUT)
+            .map(|(at, _)| at)
+            .collect();
+        assert!(
+            places.len() == 1,
+            "stream.rs: pass 2 opens {} times",
+            places.len()
+        );
+        let line_before = text[..places[0] - 1].rfind('\n').unwrap() + 1;
+        text.truncate(line_before);
+    }
+    text
+}
+
+/// Replaces every match and says how many there were.
+fn substitute(text: &mut String, one: &Substitution) -> usize {
+    let is_name = |c: char| c.is_alphanumeric() || c == '_';
+    let mut out = String::new();
+    let (mut rest, mut times) = (text.as_str(), 0);
+    while let Some(at) = rest.find(one.old) {
+        let (before, after) = (&rest[..at], &rest[at + one.old.len()..]);
+        out.push_str(before);
+        rest = after;
+        let inside_name = before.ends_with(is_name) || after.starts_with(is_name);
+        if matches!(one.how, How::Word) && inside_name {
+            out.push_str(one.old);
+            continue;
+        }
+        times += 1;
+        out.push_str(one.new);
+        if matches!(one.how, How::Statement | How::ConstantToFunction) {
+            let end = rest.find(";\n").expect("a statement ends");
+            if matches!(one.how, How::ConstantToFunction) {
+                write!(out, "{} }}", &rest[..end]).unwrap();
+            }
+            rest = &rest[end + 1..];
+        }
+    }
+    out.push_str(rest);
+    *text = out;
+    times
+}
+
+fn number(value: f32) -> String {
+    format!("f32::from_bits({:#010x})", value.to_bits())
+}
+
+fn numbers(values: &[f32]) -> String {
+    format!(
+        "[{}]",
+        values
+            .iter()
+            .map(|&value| number(value))
+            .collect::<Vec<_>>()
+            .join(", ")
+    )
+}
+
+/// Four rows of three used columns; the fourth, unused, is NaN.
+fn cubic_rows(entries: &[f32; 12]) -> String {
+    let rows = entries
+        .chunks_exact(3)
+        .map(|row| numbers(&[row[0], row[1], row[2], f32::NAN]));
+    format!("[{}]", rows.collect::<Vec<_>>().join(", "))
+}
+
+fn tables_of(set: &fixed_sets::PlainSet) -> String {
+    let (first, second) = set.spatial.split_at(45);
+    let unused = "[f32::NAN; 45]";
+    format!(
+        "pub const SIGMAS: [f32; 4] = {};\npub const ALP_SCALE_CUBIC_BASE: [[f32; 4]; 4] = {};\n\
+         pub const ALP_SPATIAL_QUADRATIC_BASE: [[f32; 45]; 4] = [{unused}, {}, {}, {unused}];\n\
+         pub const Q_SAMPLE_ORDER: [usize; 9] = {:?};\n",
+        numbers(&set.sigmas),
+        cubic_rows(&set.scale),
+        numbers(first),
+        numbers(second),
+        set.order
+    )
+}
+
+fn geometry_tables_of(set: &fixed_sets::PlainSet) -> String {
+    let names = [
+        "LOG_SIGMA_ORIGIN",
+        "CURVATURE_EPSILON",
+        "FIT_T_MIN",
+        "FIT_T_MAX",
+        "ACCEPT_SIGMA_MIN",
+        "ACCEPT_SIGMA_MAX",
+        "BLEND_BETA",
+        "BLEND_BOOST",
+        "COMPATIBILITY_LOWER",
+        "COMPATIBILITY_UPPER",
+        "FINAL_MOVE_CAP_LOG2",
+    ];
+    let mut text = format!(
+        "pub const ALP_GEOMETRY_SCALE_CUBIC_LOG2: [[f32; 4]; 4] = {};\n",
+        cubic_rows(&set.geometry)
+    );
+    for (name, &value) in names.iter().zip(&set.numbers) {
+        writeln!(
+            text,
+            "pub const ALP_GEOMETRY_{name}: f32 = {};",
+            number(value)
+        )
+        .unwrap();
+    }
+    text
+}

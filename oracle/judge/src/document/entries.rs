@@ -1,0 +1,202 @@
+//! Document 01's public entries: the refusals in their order, then the published text.
+
+use crate::here::with;
+use crate::record::{self, SIZED, SPOT, Spot};
+use crate::run::offered;
+use crate::{Answer, Logs, Rules, Set, Thresholds, counting};
+
+/// The longest side.
+pub const LONGEST: usize = 4096;
+
+fn refused(number: u32) -> Answer {
+    Answer::Refused { number, index: 0 }
+}
+
+/// Detection's refusals, the first that applies: 1, 2, 3, 4.
+pub fn detection_refusal(
+    good: bool,
+    rows: usize,
+    cols: usize,
+    octave: usize,
+    levels: [&[f32]; 4],
+) -> Option<u32> {
+    if rows > LONGEST || cols > LONGEST {
+        Some(1)
+    } else if levels.iter().any(|level| level.len() != rows * cols) {
+        Some(2)
+    } else if octave > 5 {
+        Some(3)
+    } else if !good {
+        Some(4)
+    } else {
+        None
+    }
+}
+
+/// The full count; the first whole records that fit are written and later bytes kept.
+pub fn write_spots(spots: &[Spot], out: &mut [u8]) -> Answer {
+    for (bytes, spot) in out.chunks_exact_mut(SPOT).zip(spots) {
+        bytes.copy_from_slice(&record::laid(spot));
+    }
+    Answer::Done(spots.len())
+}
+
+/// Detection by the reference pass.
+#[allow(clippy::too_many_arguments)]
+pub fn detect(
+    rules: Rules,
+    set: &Set,
+    th: Thresholds,
+    rows: usize,
+    cols: usize,
+    octave: usize,
+    levels: [&[f32]; 4],
+    out: &mut [u8],
+) -> Answer {
+    if let Some(number) = detection_refusal(set.good(), rows, cols, octave, levels) {
+        return refused(number);
+    }
+    let find = || offered::detect(th, rows, cols, octave, levels);
+    let spots = with(rules, Logs::Steps, set, || counting::counted(find));
+    write_spots(&spots, out)
+}
+
+/// Detection by the streaming pass on the same levels.
+#[allow(clippy::too_many_arguments)]
+pub fn detect_stream(
+    rules: Rules,
+    set: &Set,
+    th: Thresholds,
+    rows: usize,
+    cols: usize,
+    octave: usize,
+    levels: [&[f32]; 4],
+    out: &mut [u8],
+) -> Answer {
+    if let Some(number) = detection_refusal(set.good(), rows, cols, octave, levels) {
+        return refused(number);
+    }
+    let spots = with(rules, Logs::Steps, set, || {
+        offered::detect_stream(th, rows, cols, octave, levels)
+    });
+    write_spots(&spots, out)
+}
+
+/// The join's refusals, the first that applies: 1, 4, 5 with an index, 6.
+fn join_refusal(set: &Set, rows: usize, cols: usize, list: &[u8], out: &[u8]) -> Option<Answer> {
+    let whole = list.len() / SPOT;
+    if rows > LONGEST || cols > LONGEST {
+        return Some(refused(1));
+    }
+    if !set.good() {
+        return Some(refused(4));
+    }
+    if !list.len().is_multiple_of(SPOT) {
+        return Some(Answer::Refused {
+            number: 5,
+            index: whole,
+        });
+    }
+    let bad = list
+        .chunks_exact(SPOT)
+        .position(|bytes| !record::readable(rows, cols, bytes));
+    if let Some(index) = bad {
+        return Some(Answer::Refused { number: 5, index });
+    }
+    (out.len() < whole * SIZED).then_some(refused(6))
+}
+
+/// The spot record, its corrected sigma, its home pixel and whether a size was given.
+fn sized(cols: usize, spot: &[u8]) -> [u8; SIZED] {
+    let [_, _, sigma, _, samples @ ..] = record::floats(spot);
+    let size = offered::correct(&samples, sigma, record::is_max(spot));
+    let key = record::key(spot);
+    let mut bytes = [0; SIZED];
+    bytes[..SPOT].copy_from_slice(spot);
+    bytes[40..44].copy_from_slice(&size.unwrap_or(0.0).to_le_bytes());
+    bytes[44..46].copy_from_slice(&((key / cols) as u16).to_le_bytes());
+    bytes[46..48].copy_from_slice(&((key % cols) as u16).to_le_bytes());
+    bytes[48] = size.is_some() as u8;
+    bytes
+}
+
+/// The join: each record of the list with its size.
+pub fn join(
+    logs: Logs,
+    set: &Set,
+    rows: usize,
+    cols: usize,
+    list: &[u8],
+    out: &mut [u8],
+) -> Answer {
+    if let Some(refusal) = join_refusal(set, rows, cols, list, out) {
+        return refusal;
+    }
+    with(Rules::Document, logs, set, || {
+        for (bytes, spot) in out.chunks_exact_mut(SIZED).zip(list.chunks_exact(SPOT)) {
+            bytes.copy_from_slice(&sized(cols, spot));
+        }
+    });
+    Answer::Done(list.len() / SPOT)
+}
+
+/// The correction: 4 for a set that is not good, 7 where there is no size.
+pub fn correct(
+    rules: Rules,
+    logs: Logs,
+    set: &Set,
+    samples: [f32; 4],
+    sigma: f32,
+    is_max: bool,
+) -> Result<f32, u32> {
+    if !set.good() {
+        return Err(4);
+    }
+    with(rules, logs, set, || {
+        offered::correct(&samples, sigma, is_max)
+    })
+    .ok_or(7)
+}
+
+/// The octave count over whole numbers.
+pub fn octave_count_rule(rows: usize, cols: usize) -> usize {
+    match rows.min(cols) {
+        0..10 => 0,
+        10..=64 => 1,
+        65..=128 => 2,
+        129..=256 => 3,
+        257..=512 => 4,
+        513..=1024 => 5,
+        _ => 6,
+    }
+}
+
+/// The published octave count, by logarithm.
+pub fn octave_count_published(logs: Logs, rows: usize, cols: usize) -> usize {
+    with(Rules::Published, logs, &Set::t(), || {
+        offered::octave_count(rows, cols)
+    })
+}
+
+/// Every second pixel of every second column; refuses 1, 2, 6 and keeps what lies past the result.
+pub fn downsample(
+    rows: usize,
+    cols: usize,
+    level: &[f32],
+    out: &mut [f32],
+) -> Result<(usize, usize), u32> {
+    if rows > LONGEST || cols > LONGEST {
+        return Err(1);
+    }
+    if level.len() != rows * cols {
+        return Err(2);
+    }
+    let half = with(Rules::Published, Logs::Steps, &Set::t(), || {
+        offered::downsample(rows, cols, level)
+    });
+    let pixels = half.as_slice();
+    out.get_mut(..pixels.len())
+        .ok_or(6u32)?
+        .copy_from_slice(pixels);
+    Ok((half.nrows(), half.ncols()))
+}

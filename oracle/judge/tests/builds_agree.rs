@@ -1,0 +1,212 @@
+//! The text as published and the text with a run-time set give the same bytes, and so do its two passes.
+
+use judge::{Answer, Logs, Rules, Thresholds, fixed};
+
+/// Splitmix: a seeded stream of words.
+struct Random(u64);
+
+impl Random {
+    fn word(&mut self) -> u64 {
+        self.0 = self.0.wrapping_add(0x9e3779b97f4a7c15);
+        let mut z = self.0;
+        z = (z ^ (z >> 30)).wrapping_mul(0xbf58476d1ce4e5b9);
+        z = (z ^ (z >> 27)).wrapping_mul(0x94d049bb133111eb);
+        z ^ (z >> 31)
+    }
+
+    fn below(&mut self, limit: usize) -> usize {
+        (self.word() % limit as u64) as usize
+    }
+
+    /// From -1 to 1.
+    fn unit(&mut self) -> f32 {
+        (self.word() >> 40) as f32 / (1 << 23) as f32 - 1.0
+    }
+
+    fn pick<T: Copy>(&mut self, list: &[T]) -> T {
+        list[self.below(list.len())]
+    }
+}
+
+const ODD: [f32; 9] = [
+    f32::NAN,
+    f32::INFINITY,
+    f32::NEG_INFINITY,
+    0.0,
+    -0.0,
+    1e-45,
+    -1e-39,
+    3e38,
+    -1e20,
+];
+
+/// Blobs shared by the levels, weighed so that the middle levels are strong, with noise, ties or lost pixels.
+fn levels(random: &mut Random, sigmas: [f32; 4], rows: usize, cols: usize) -> [Vec<f32>; 4] {
+    let (coarse, noise) = (random.below(3) == 0, random.pick(&[0.0, 0.05, 0.5]));
+    let shared: Vec<f32> = (0..rows * cols)
+        .map(|_| random.unit().powi(3) * 40.0)
+        .collect();
+    let lost = random.pick(&[0, 0, 1, 4]);
+    core::array::from_fn(|k| {
+        let weight = [0.3, 1.0, 0.9, 0.4][k] + 0.3 * random.unit();
+        let variance = sigmas[k] * sigmas[k];
+        let scale = if variance > 1e-9 && variance < 1e9 {
+            weight / variance
+        } else {
+            weight
+        };
+        let mut level: Vec<f32> = shared
+            .iter()
+            .map(|value| (value + noise * random.unit()) * scale)
+            .collect();
+        if coarse {
+            level
+                .iter_mut()
+                .for_each(|value| *value = (*value * 0.5).round() * 0.25);
+        }
+        for _ in 0..lost.min(level.len()) {
+            let at = random.below(level.len());
+            level[at] = random.pick(&ODD);
+        }
+        level
+    })
+}
+
+fn thresholds(random: &mut Random, sigmas: [f32; 4]) -> Thresholds {
+    let odd = random.below(8) == 0;
+    Thresholds {
+        peak: if odd {
+            random.pick(&ODD)
+        } else {
+            random.pick(&[0.0, 1.0, -0.5, -1e9])
+        },
+        sigma: random.pick(&[0.0, 0.01, -1.0]),
+        ratio: random.pick(&[4.5, 12.1, 1e6, f32::NAN]),
+        low: random.pick(&[0.0, sigmas[0], sigmas[1] * 0.9]),
+        high: random.pick(&[sigmas[3], sigmas[3] * 0.92, f32::INFINITY]),
+    }
+}
+
+type Listed = (Answer, Vec<u8>);
+
+fn listed(find: impl Fn(&mut [u8]) -> Answer) -> Listed {
+    let mut out = vec![0; 40 * 4000];
+    let answer = find(&mut out);
+    (answer, out)
+}
+
+fn count((answer, _): &Listed) -> usize {
+    match answer {
+        Answer::Done(count) => *count,
+        Answer::Refused { .. } => panic!("a sound map is refused"),
+    }
+}
+
+#[test]
+fn both_builds_and_both_passes_list_the_same_bytes() {
+    for index in 0..fixed::NAMES.len() {
+        let set = fixed::set(index);
+        let mut random = Random(77 + index as u64);
+        let (mut spots, mut maps_with_spots) = (0, 0);
+        for map in 0..600 {
+            let (rows, cols) = (random.below(34), random.below(34));
+            let owned = levels(&mut random, set.sigmas, rows, cols);
+            let (th, octave) = (thresholds(&mut random, set.sigmas), random.below(6));
+            let given: [&[f32]; 4] = core::array::from_fn(|k| &owned[k][..]);
+            let as_published =
+                listed(|out| fixed::detect(index, th, rows, cols, octave, given, out));
+            let streamed =
+                listed(|out| fixed::detect_stream(index, th, rows, cols, octave, given, out));
+            assert!(
+                as_published == streamed,
+                "{} map {map}: the two published passes",
+                fixed::NAMES[index]
+            );
+            for rules in [Rules::Published, Rules::Document] {
+                let run =
+                    listed(|out| judge::detect(rules, &set, th, rows, cols, octave, given, out));
+                let run_streamed = listed(|out| {
+                    judge::detect_stream(rules, &set, th, rows, cols, octave, given, out)
+                });
+                assert!(
+                    run == run_streamed,
+                    "{} map {map}: the two passes, {rules:?}",
+                    fixed::NAMES[index]
+                );
+                if rules == Rules::Published {
+                    assert!(
+                        as_published == run,
+                        "{} map {map}: the two builds",
+                        fixed::NAMES[index]
+                    );
+                }
+            }
+            spots += count(&as_published);
+            maps_with_spots += (count(&as_published) > 0) as usize;
+        }
+        println!(
+            "{}: {maps_with_spots} maps of 600 with {spots} spots",
+            fixed::NAMES[index]
+        );
+        assert!(
+            spots > 200,
+            "{}: too few spots for a comparison",
+            fixed::NAMES[index]
+        );
+    }
+}
+
+#[test]
+fn both_builds_correct_to_the_same_bits() {
+    for index in 0..fixed::NAMES.len() {
+        let set = fixed::set(index);
+        let mut random = Random(991 + index as u64);
+        let mut sizes = 0;
+        for case in 0..40_000 {
+            let size = random.pick(&[1.0f32, 30.0, 1e-3, -20.0]);
+            let peaked = [0.4, 1.0, 0.9, 0.5].map(|weight| size * (weight + 0.3 * random.unit()));
+            let samples = if case % 50 == 0 {
+                core::array::from_fn(|_| random.pick(&ODD))
+            } else {
+                peaked
+            };
+            let sigma = random.pick(&[set.sigmas[1], 2.0, 3.0]) * (1.0 + 0.5 * random.unit());
+            for (logs, is_max) in [(Logs::Steps, size > 0.0), (Logs::Rust, size < 0.0)] {
+                let as_published =
+                    fixed::correct(logs, index, samples, sigma, is_max).map(f32::to_bits);
+                let run = judge::correct(Rules::Published, logs, &set, samples, sigma, is_max)
+                    .map(f32::to_bits);
+                let ours = judge::correct(Rules::Document, logs, &set, samples, sigma, is_max)
+                    .map(f32::to_bits);
+                assert!(
+                    as_published == run && run == ours,
+                    "{} case {case}",
+                    fixed::NAMES[index]
+                );
+                sizes += run.is_ok() as usize;
+            }
+        }
+        println!(
+            "{}: {sizes} sizes in 80000 corrections",
+            fixed::NAMES[index]
+        );
+    }
+}
+
+#[test]
+fn each_candidate_is_listed_or_counted_at_one_gate() {
+    let mut random = Random(4242);
+    for map in 0..400 {
+        let index = random.below(fixed::NAMES.len());
+        let set = fixed::set(index);
+        let (rows, cols) = (9 + random.below(20), 9 + random.below(20));
+        let owned = levels(&mut random, set.sigmas, rows, cols);
+        let th = thresholds(&mut random, set.sigmas);
+        let given: [&[f32]; 4] = core::array::from_fn(|k| &owned[k][..]);
+        judge::reset_counts();
+        let run = listed(|out| judge::detect(Rules::Document, &set, th, rows, cols, 0, given, out));
+        let rejected: u64 = judge::counts().iter().map(|(_, count)| count).sum();
+        let candidates = 2 * (rows - 8) * (cols - 8);
+        assert_eq!(rejected as usize + count(&run), candidates, "map {map}");
+    }
+}

@@ -1,0 +1,261 @@
+//! Document 01's numbers, from the judge.
+
+use judge::{Answer, Logs, Rules, Set, Thresholds, inner};
+
+const RULES: [Rules; 2] = [Rules::Published, Rules::Document];
+
+#[test]
+fn the_printed_cases_are_document_01s() {
+    let line = "00009040000080400000004000008040000080bf0000804000000000000000002c00000000010100\nfound 1\n";
+    let expected = [
+        ("P9", line),
+        ("P10", "found 0\n"),
+        ("P11", line),
+        ("P12", "refused 7\n"),
+    ];
+    let printed = judge::cases::all();
+    for ((name, text), (expected_name, expected_text)) in printed.iter().zip(expected) {
+        assert_eq!((*name, text.as_str()), (expected_name, expected_text));
+    }
+}
+
+#[test]
+fn powers_of_two_have_whole_logarithms() {
+    for exponent in -149..=127 {
+        let bits = if exponent < -126 {
+            1 << (exponent + 149)
+        } else {
+            ((exponent + 127) as u32) << 23
+        };
+        assert_eq!(judge::steps::log2(f32::from_bits(bits)), exponent as f32);
+    }
+}
+
+#[test]
+fn the_inner_functions_give_p4_to_p8() {
+    let t = Set::t();
+    for rules in RULES {
+        assert_eq!(inner::horner(rules, &t, [1.0, 2.0, 3.0, 4.0], 2.0), 26.0);
+        let extreme =
+            |cubic, low, high, is_max| inner::band_extreme(rules, &t, cubic, low, high, is_max);
+        assert_eq!(extreme([0.0, -1.0, 4.0, 0.0], 1.0, 3.0, true), 4.0);
+        assert_eq!(extreme([0.0, -1.0, 4.0, 0.0], 1.0, 3.0, false), 3.0);
+        assert_eq!(extreme([1.0, 0.0, -3.0, 0.0], 0.5, 2.0, true), 2.0);
+        assert_eq!(extreme([1.0, 0.0, -3.0, 0.0], 0.5, 2.0, false), -2.0);
+        assert_eq!(
+            inner::scale_envelope(rules, &t, [-1.0, 4.0, 0.0, 0.0]),
+            (-1.0, 4.0, 0.0, 2.0)
+        );
+    }
+    for (side, count) in [(9, 0), (10, 1), (64, 1), (65, 2), (1025, 6)] {
+        assert_eq!(judge::octave_count_rule(side, 4096), count);
+    }
+}
+
+#[test]
+fn the_octave_count_by_logarithm_is_the_whole_number_rule() {
+    for side in 0..=4096 {
+        let rule = judge::octave_count_rule(side, 4096);
+        assert_eq!(
+            judge::octave_count_published(4096, side),
+            rule,
+            "side {side}"
+        );
+        assert_eq!(
+            judge::octave_count_by_steps(4096, side),
+            rule,
+            "side {side}, by steps"
+        );
+        assert_eq!(
+            judge::fixed::octave_count(side, side + 1),
+            rule,
+            "side {side}, as published"
+        );
+    }
+}
+
+#[test]
+fn the_steps_are_near_an_independent_f64() {
+    let mut log_worst = 0.0f64;
+    for bits in (0.25f32.to_bits()..=16.0f32.to_bits()).step_by(97) {
+        let x = f32::from_bits(bits);
+        log_worst = log_worst.max((judge::steps::log2(x) as f64 - (x as f64).log2()).abs());
+    }
+    assert!(log_worst < 2f64.powi(-20), "{log_worst:e}");
+    let mut exp_worst = 0.0f64;
+    for bits in (0..=8.0f32.to_bits()).step_by(997) {
+        for x in [f32::from_bits(bits), -f32::from_bits(bits)] {
+            exp_worst = exp_worst.max((judge::steps::exp(x) as f64 / (x as f64).exp() - 1.0).abs());
+        }
+    }
+    assert!(exp_worst < 2f64.powi(-20), "{exp_worst:e}");
+}
+
+#[test]
+fn the_steps_keep_their_claims_at_the_edges() {
+    let (log2, exp) = (judge::steps::log2, judge::steps::exp);
+    assert!(log2(f32::NAN).is_nan() && log2(-1e-45).is_nan() && log2(f32::NEG_INFINITY).is_nan());
+    assert_eq!(
+        (log2(0.0), log2(-0.0)),
+        (f32::NEG_INFINITY, f32::NEG_INFINITY)
+    );
+    assert_eq!(log2(f32::INFINITY), f32::INFINITY);
+    assert!(exp(f32::NAN).is_nan());
+    assert_eq!((exp(0.0), exp(-0.0), exp(89.0)), (1.0, 1.0, f32::INFINITY));
+    assert_eq!(
+        (exp(-104.0).to_bits(), exp(f32::NEG_INFINITY).to_bits()),
+        (0, 0)
+    );
+    for bits in (0..=u32::MAX).step_by(4099) {
+        let x = f32::from_bits(bits);
+        assert!(x.is_nan() || exp(x) >= 0.0);
+        if x > 0.0 && x.is_finite() {
+            let floor = (x as f64).log2().floor() as f32;
+            assert!(log2(x) >= floor && log2(x) <= floor + 1.0);
+        }
+    }
+}
+
+const TH: Thresholds = Thresholds {
+    peak: 1.0,
+    sigma: 1.0,
+    ratio: 10.0,
+    low: 1.9027314,
+    high: 4.1498866,
+};
+
+fn number(answer: Answer) -> u32 {
+    match answer {
+        Answer::Done(_) => 0,
+        Answer::Refused { number, .. } => number,
+    }
+}
+
+#[test]
+fn detection_refuses_in_the_tables_order() {
+    let good = Set::t();
+    let mut bad = Set::t();
+    bad.order[3] = 9;
+    let level = [0.0; 90];
+    for (set, rows, octave, expected) in [
+        (&good, 9, 0, 0),
+        (&bad, 9, 0, 4),
+        (&bad, 9, 6, 3),
+        (&bad, 8, 6, 2),
+        (&bad, 4097, 6, 1),
+        (&good, 4097, 0, 1),
+    ] {
+        let mut out = [7; 40];
+        let answer = judge::detect(
+            Rules::Document,
+            set,
+            TH,
+            rows,
+            10,
+            octave,
+            [&level; 4],
+            &mut out,
+        );
+        assert_eq!((number(answer), out), (expected, [7; 40]));
+    }
+}
+
+#[test]
+fn short_spot_buffers_keep_their_other_bytes() {
+    let input = judge::cases::map_m(None);
+    let pixel = |bytes: &[u8]| f32::from_le_bytes(bytes.try_into().unwrap());
+    let pixels: Vec<f32> = input[560..].chunks_exact(4).map(pixel).collect();
+    let levels: [&[f32]; 4] = core::array::from_fn(|k| &pixels[90 * k..90 * (k + 1)]);
+    for (room, written) in [(0, 0), (39, 0), (40, 40), (79, 40), (100, 40)] {
+        let mut out = vec![0xa5; room];
+        let answer = judge::detect(Rules::Document, &Set::t(), TH, 9, 10, 0, levels, &mut out);
+        assert_eq!(answer, Answer::Done(1));
+        assert!(out[written..].iter().all(|&byte| byte == 0xa5) && (written == 0 || out[39] == 0));
+    }
+}
+
+#[test]
+fn a_small_w1_is_rejected_by_its_own_gate() {
+    let mut set = Set::t();
+    for block in set.spatial.chunks_exact_mut(45) {
+        block[3] = 1e-12;
+        block[9 + 5] = 1e6;
+    }
+    let mut input = judge::cases::map_m(None);
+    input[..528].copy_from_slice(&set.to_record());
+    judge::reset_counts();
+    assert_eq!(judge::list_program(&input, true), b"found 0\n");
+    assert!(judge::counts().contains(&("w1 small", 1)));
+}
+
+#[test]
+fn the_list_program_refuses_in_its_order() {
+    let sound = judge::cases::map_m(None);
+    let with = |changes: &[(usize, u8)], cut: usize| {
+        let mut input = sound.clone();
+        changes.iter().for_each(|&(at, byte)| input[at] = byte);
+        input.truncate(input.len() - cut);
+        String::from_utf8(judge::list_program(&input, true)).unwrap()
+    };
+    let (side, octave, spare) = ((548, 61), (556, 6), (527, 1));
+    assert_eq!(with(&[side, octave, spare], 1), "refused 1\n");
+    assert_eq!(with(&[octave, spare], 1), "refused 2\n");
+    assert_eq!(with(&[octave, spare], 0), "refused 3\n");
+    assert_eq!(with(&[spare], 0), "refused 4\n");
+    assert_eq!(with(&[side], sound.len() - 559), "refused 2\n");
+    assert_eq!(judge::list_program(&[], true), b"refused 2\n");
+}
+
+#[test]
+fn the_join_refuses_in_its_order_and_sizes_p9() {
+    let line = judge::cases::all()[0].1.clone();
+    let byte = |k: usize| u8::from_str_radix(&line[2 * k..2 * k + 2], 16).unwrap();
+    let record: Vec<u8> = (0..40).map(byte).collect();
+    let mut bad = Set::t();
+    bad.numbers[10] = -1.0;
+    let run = |set: &Set, rows, list: &[u8], room: usize| {
+        let mut out = vec![9; room];
+        let answer = judge::join(Logs::Steps, set, rows, 10, list, &mut out);
+        (answer, out)
+    };
+    let refused = |number, index| Answer::Refused { number, index };
+    let mut twice = [record.clone(), record.clone()].concat();
+    assert_eq!(run(&bad, 4097, &twice[..41], 0).0, refused(1, 0));
+    assert_eq!(run(&bad, 9, &twice[..41], 0).0, refused(4, 0));
+    assert_eq!(run(&Set::t(), 9, &twice[..41], 0).0, refused(5, 1));
+    assert_eq!(run(&Set::t(), 4, &twice, 0).0, refused(5, 0));
+    assert_eq!(
+        run(&Set::t(), 9, &twice, 103),
+        (refused(6, 0), vec![9; 103])
+    );
+    twice[79] = 1;
+    assert_eq!(run(&Set::t(), 9, &twice, 0).0, refused(5, 1));
+    let (answer, out) = run(&Set::t(), 9, &record, 60);
+    assert_eq!(
+        (answer, &out[..40], &out[44..48]),
+        (Answer::Done(1), &record[..], &[4, 0, 4, 0][..])
+    );
+    assert_eq!((&out[49..52], &out[52..]), (&[0; 3][..], &[9; 8][..]));
+}
+
+#[test]
+fn halving_takes_even_pixels_and_keeps_the_rest() {
+    let level: Vec<f32> = (0..15).map(|k| k as f32).collect();
+    let mut out = [-1.0; 4];
+    assert_eq!(judge::downsample(5, 3, &level, &mut out), Ok((2, 1)));
+    assert_eq!(out, [0.0, 2.0, -1.0, -1.0]);
+    assert_eq!(judge::downsample(5, 3, &level, &mut out[..1]), Err(6));
+    assert_eq!(judge::downsample(1, 15, &level, &mut []), Ok((0, 0)));
+    assert_eq!(judge::downsample(5, 4, &level, &mut []), Err(2));
+    assert_eq!(judge::downsample(4097, 4, &level, &mut []), Err(1));
+}
+
+#[test]
+fn a_set_reads_back_from_its_record() {
+    for index in 0..judge::fixed::NAMES.len() {
+        let record = judge::fixed::set(index).to_record();
+        let back = Set::from_record(&record).expect("a fixed set is good");
+        assert_eq!(back.to_record(), record);
+        assert!(Set::from_record(&record[..527]).is_none());
+    }
+}

@@ -1,0 +1,224 @@
+//! What is under test, behind one trait, and its answers as plain bytes.
+
+use cases::{Case, Scene, Set};
+
+pub mod process;
+pub mod stored;
+
+/// An answer of detection or the join: a count, or a refusal with its number and index.
+#[derive(Clone, Copy, Debug, PartialEq, Eq)]
+pub enum Reply {
+    Done(usize),
+    Refused { number: u32, index: usize },
+}
+
+/// One implementation; a function it does not offer answers None.
+pub trait Subject {
+    /// What the reports call it.
+    fn name(&self) -> String;
+
+    /// The list program: standard input to standard output.
+    fn list_program(&mut self, _input: &[u8]) -> Option<Vec<u8>> {
+        None
+    }
+
+    /// Detection into a lent buffer.
+    fn detect(&mut self, _scene: &Scene, _out: &mut [u8]) -> Option<Reply> {
+        None
+    }
+
+    /// The join of a list of spot records into a lent buffer.
+    fn join(
+        &mut self,
+        _set: &Set,
+        _rows: usize,
+        _cols: usize,
+        _list: &[u8],
+        _out: &mut [u8],
+    ) -> Option<Reply> {
+        None
+    }
+
+    /// The correction: a corrected sigma or a refusal number.
+    fn correct(
+        &mut self,
+        _set: &Set,
+        _samples: [f32; 4],
+        _sigma: f32,
+        _is_max: bool,
+    ) -> Option<Result<f32, u32>> {
+        None
+    }
+
+    /// The number of octaves.
+    fn octave_count(&mut self, _rows: usize, _cols: usize) -> Option<usize> {
+        None
+    }
+
+    /// Half the rows and cols into a lent buffer.
+    fn downsample(
+        &mut self,
+        _rows: usize,
+        _cols: usize,
+        _level: &[f32],
+        _out: &mut [f32],
+    ) -> Option<Result<(usize, usize), u32>> {
+        None
+    }
+
+    /// The set reader: accepted, or a refusal number.
+    fn read_set(&mut self, _bytes: &[u8]) -> Option<Result<(), u32>> {
+        None
+    }
+
+    /// An inner function on words: a bool is 1.0 or 0.0, an absent number is no word.
+    fn inner(&mut self, _function: &str, _set: &Set, _words: &[f32]) -> Option<Vec<f32>> {
+        None
+    }
+}
+
+/// A subject's whole answer to a case as bytes: the reply, then each lent buffer after the call.
+pub fn answer(subject: &mut dyn Subject, case: &Case) -> Option<Vec<u8>> {
+    match case {
+        Case::List { input } => subject.list_program(input),
+        Case::Detect { scene, room, fill } => {
+            let mut out = vec![*fill; *room];
+            let reply = subject.detect(scene, &mut out)?;
+            Some(with_reply(reply, &out))
+        }
+        Case::Join { .. } => joined(subject, case),
+        Case::Sized { scene } => sized(subject, scene),
+        Case::Correct { .. } => corrected(subject, case),
+        Case::Octaves { rows, cols } => {
+            let count = subject.octave_count(*rows, *cols)?;
+            Some((count as u64).to_le_bytes().to_vec())
+        }
+        Case::Downsample { .. } => halved(subject, case),
+        Case::Reader { bytes } => Some(match subject.read_set(bytes)? {
+            Ok(()) => vec![0],
+            Err(number) => vec![number as u8],
+        }),
+        Case::Inner {
+            function,
+            set,
+            words,
+        } => {
+            let words = subject.inner(function, set, words)?;
+            Some(word_bytes(&words, *function == "fit_spatial_quadratic"))
+        }
+    }
+}
+
+fn joined(subject: &mut dyn Subject, case: &Case) -> Option<Vec<u8>> {
+    let Case::Join {
+        set,
+        rows,
+        cols,
+        list,
+        room,
+        fill,
+    } = case
+    else {
+        return None;
+    };
+    let mut out = vec![*fill; *room];
+    let reply = subject.join(set, *rows, *cols, list, &mut out)?;
+    Some(with_reply(reply, &out))
+}
+
+fn corrected(subject: &mut dyn Subject, case: &Case) -> Option<Vec<u8>> {
+    let Case::Correct {
+        set,
+        samples,
+        sigma,
+        is_max,
+    } = case
+    else {
+        return None;
+    };
+    Some(match subject.correct(set, *samples, *sigma, *is_max)? {
+        Ok(size) => [&[0u8][..], &size.to_le_bytes()].concat(),
+        Err(number) => [&[1u8][..], &number.to_le_bytes()].concat(),
+    })
+}
+
+fn halved(subject: &mut dyn Subject, case: &Case) -> Option<Vec<u8>> {
+    let Case::Downsample {
+        rows,
+        cols,
+        level,
+        room,
+        fill,
+    } = case
+    else {
+        return None;
+    };
+    let mut out = vec![*fill; *room];
+    let mut bytes = match subject.downsample(*rows, *cols, level, &mut out)? {
+        Ok((rows, cols)) => format!("{rows} by {cols}:").into_bytes(),
+        Err(number) => format!("refused {number}:").into_bytes(),
+    };
+    bytes.extend(word_bytes(&out, false));
+    Some(bytes)
+}
+
+/// Detection into enough room, then the join of its list.
+fn sized(subject: &mut dyn Subject, scene: &Scene) -> Option<Vec<u8>> {
+    let mut list = vec![0u8; 80 * scene.rows * scene.cols];
+    let reply = subject.detect(scene, &mut list)?;
+    let Reply::Done(count) = reply else {
+        return Some(with_reply(reply, &list));
+    };
+    let mut out = vec![0x5au8; 52 * count];
+    let reply = subject.join(
+        &scene.set,
+        scene.rows,
+        scene.cols,
+        &list[..40 * count],
+        &mut out,
+    )?;
+    Some(with_reply(reply, &out))
+}
+
+fn with_reply(reply: Reply, out: &[u8]) -> Vec<u8> {
+    let mut bytes = match reply {
+        Reply::Done(count) => format!("done {count}:"),
+        Reply::Refused { number: 5, index } => format!("refused 5 at {index}:"),
+        Reply::Refused { number, .. } => format!("refused {number}:"),
+    }
+    .into_bytes();
+    bytes.extend_from_slice(out);
+    bytes
+}
+
+/// Words as bytes, any NaN as one NaN. A library sum leaves a zero's sign open: then any zero as +0.
+fn word_bytes(words: &[f32], zero_sign_open: bool) -> Vec<u8> {
+    let plain = |&word: &f32| match word {
+        word if word.is_nan() => f32::NAN.to_le_bytes(),
+        word if zero_sign_open && word == 0.0 => 0.0f32.to_le_bytes(),
+        word => word.to_le_bytes(),
+    };
+    words.iter().flat_map(plain).collect()
+}
+
+/// Where two answers part, for a reader.
+pub fn difference(sound: &[u8], given: &[u8]) -> String {
+    let same = sound
+        .iter()
+        .zip(given)
+        .take_while(|(one, other)| one == other)
+        .count();
+    let from = same.saturating_sub(8);
+    let show = |bytes: &[u8]| -> String {
+        let part = &bytes[from.min(bytes.len())..bytes.len().min(same + 24)];
+        let hex: String = part.iter().map(|byte| format!("{byte:02x}")).collect();
+        format!("{hex} ({})", String::from_utf8_lossy(part).escape_debug())
+    };
+    format!(
+        "byte {same} of {} and {}; from byte {from}:\n  expected {}\n  given    {}",
+        sound.len(),
+        given.len(),
+        show(sound),
+        show(given)
+    )
+}
