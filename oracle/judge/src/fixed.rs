@@ -65,6 +65,30 @@ pub fn detect_stream(
     answered(index, (rows, cols, octave), levels, out, find)
 }
 
+/// Seconds of the reference's pass alone, and the spots it found.
+pub fn time_reference(
+    index: usize,
+    th: Thresholds,
+    rows: usize,
+    cols: usize,
+    octave: usize,
+    levels: [&[f32]; 4],
+) -> (f64, usize) {
+    of_build!(index, time_reference(th, rows, cols, octave, levels))
+}
+
+/// Seconds of the streaming pass alone, and the spots it found.
+pub fn time_stream(
+    index: usize,
+    th: Thresholds,
+    rows: usize,
+    cols: usize,
+    octave: usize,
+    levels: [&[f32]; 4],
+) -> (f64, usize) {
+    of_build!(index, time_stream(th, rows, cols, octave, levels))
+}
+
 pub fn correct(
     logs: Logs,
     index: usize,

@@ -51,6 +51,42 @@ pub fn detect_stream(
     spots(stream::detect_octave(base, octave, Some(&params(th)), false).candidates)
 }
 
+/// Seconds of the reference's pass alone, its levels already in place, and the spots it found.
+#[allow(dead_code)]
+pub fn time_reference(
+    th: Thresholds,
+    rows: usize,
+    cols: usize,
+    octave: usize,
+    levels: [&[f32]; 4],
+) -> (f64, usize) {
+    let base = GrayImage::from_vec(rows, cols, levels.concat());
+    let space = reference::ScaleSpace::from_column_blur(&base, octave);
+    let began = std::time::Instant::now();
+    let found = space.detect_candidates(octave, &params(th)).len();
+    (began.elapsed().as_secs_f64(), found)
+}
+
+/// Seconds of the streaming pass, which copies each column of the levels as it goes where it would blur one, and the spots it found.
+#[allow(dead_code)]
+pub fn time_stream(
+    th: Thresholds,
+    rows: usize,
+    cols: usize,
+    octave: usize,
+    levels: [&[f32]; 4],
+) -> (f64, usize) {
+    let pixels = levels.concat();
+    let base = BaseImage {
+        pixels: &pixels,
+        rows,
+        cols,
+    };
+    let began = std::time::Instant::now();
+    let found = stream::detect_octave(base, octave, Some(&params(th)), false).candidates.len();
+    (began.elapsed().as_secs_f64(), found)
+}
+
 pub fn correct(samples: &[f32; 4], sigma: f32, is_max: bool) -> Option<f32> {
     scale_fit::corrected_sigma_from_anchor(samples, sigma, is_max)
 }

@@ -1,0 +1,54 @@
+-- Laws of detection's checks, and of what it leaves.
+use Prim.Native.Nat.{ℕ, _*_, _≤_}
+use native.Mathlib.Nat.{zero-add}
+use mathlib.Core.Bool.{Bool, true, false}
+use mathlib.Core.List.{List}
+use mathlib.Core.Path.{_≡_, refl}
+use lib.Dec.{eqb}
+use borrow.Author.Tests.{ltb-false, eqb-true, not-false}
+use Rattle.tables.specs.declared.Set.{Set}
+use Rattle.tables.specs.declared.Refusal.{Refusal}
+use Rattle.tables.specs.declared.Checked.{Checked}
+use Rattle.tables.specs.declared.Checked.the-variants.{Fine}
+use Rattle.record.proofs.LayoutLaws.{lay-laid}
+use Rattle.alp.specs.Level.{Maps, Sized}
+use Rattle.alp.specs.Due.{due, Laid}
+use Rattle.alp.specs.Detect.{detectChecks, unless, outcome, detected}
+use Rattle.alp.specs.declared.Answer.the-variants.{Found}
+
+unless-fine : (b : Bool) (r : Refusal) (next : Checked) → unless b r next ≡ Fine → (b ≡ false) × (next ≡ Fine)
+unfolding unless
+unless-fine true r next h = (cc, cc)
+unless-fine false r next h = (refl, h)
+
+-- what no check refuses
+pub record Passed (n0 n1 n2 n3 rows cols octave : ℕ) : Type 0 where
+  pub sized : Sized (record { rows = rows; cols = cols; octave = octave }) n0 n1 n2 n3
+  pub octave-most : octave ≤ 5
+
+pub checks-passed : (n0 n1 n2 n3 rows cols octave : ℕ) (s : Set) → detectChecks n0 n1 n2 n3 rows cols octave s ≡ Fine → Passed n0 n1 n2 n3 rows cols octave
+unfolding detectChecks
+checks-passed n0 n1 n2 n3 rows cols octave s h =
+    let a = unless-fine _ _ _ h in
+    let b = unless-fine _ _ _ (a .1) in
+    let c = unless-fine _ _ _ (b .1) in
+    let d = unless-fine _ _ _ (c .1) in
+    let e = unless-fine _ _ _ (d .1) in
+    let f = unless-fine _ _ _ (e .1) in
+    let g = unless-fine _ _ _ (f .1) in
+    record {
+      sized = record {
+        rows-most = ltb-false _ _ (a .0);
+        cols-most = ltb-false _ _ (b .0);
+        long0 = eqb-true _ _ (not-false (eqb n0 (rows * cols)) (c .0));
+        long1 = eqb-true _ _ (not-false (eqb n1 (rows * cols)) (d .0));
+        long2 = eqb-true _ _ (not-false (eqb n2 (rows * cols)) (e .0));
+        long3 = eqb-true _ _ (not-false (eqb n3 (rows * cols)) (f .0));
+      };
+      octave-most = ltb-false _ _ (g .0);
+    }
+
+-- the whole list laid from the buffer's start, and its length, are what a call that no check refuses leaves and answers
+pub found-laid : {out out' : List ℕ} {n : ℕ} (m : Maps) → Laid out out' 0 n (due m) → outcome (Found n) out' ≡ detected Fine m out
+unfolding detected
+found-laid m p = rw (p .count, zero-add, p .bytes, lay-laid)

@@ -1,0 +1,57 @@
+-- `candidates::row_spots` meets its contract. The loop's invariant: what the first k judged pixels of the row list is laid.
+use native.Mathlib.Numerals.{add-one}
+use native.Mathlib.Omega.{arith}
+use mathlib.Core.Path.{_≡_}
+use Prim.Native.Nat.{_≤_, _-_}
+use Rattle.alp.specs.Level.{mapsOf}
+use Rattle.alp.specs.Due.{Laid, rowDue}
+use Rattle.alp.proofs.DueLaws.{laid-none, laid-append, laid-length, rowDue-short}
+use Rattle.alp.proofs.candidates.row_spots.Statement.{statement}
+use Rattle.alp.proofs.candidates.row_spots.Tie as tie
+
+abbrev Inv-loop : tie.InvT-loop
+Inv-loop l0 l1 l2 l3 f set th row out₀ n m₀ k₀ out m k = (k ≤ f .cols - 8) × Laid out₀ out n m (rowDue (mapsOf l0 l1 l2 l3 f set th) row k)
+
+abbrev μ-loop : tie.MeasureT-loop
+μ-loop l0 l1 l2 l3 f set th row out₀ n m₀ k₀ out m k = f .cols - 8 - k
+
+loop-holds : tie.Need-loop-holds Inv-loop μ-loop
+unfolding rowDue
+loop-holds c = (omega arith, laid-none)
+
+add-if1 : tie.Need-add-if1 Inv-loop μ-loop
+add-if1 c = omega arith
+
+add-pixel : tie.Need-add-pixel Inv-loop μ-loop
+add-pixel c = omega arith
+
+pixel-requires : tie.Need-pixel-requires Inv-loop μ-loop
+pixel-requires c κs =
+    let a = c .before .before .before .before .before .before .before .before .before .args in
+    let p = c .before .before .before .before .before .before .before .before .before .pre in
+    let l = c .before .before .before .loop in (
+      p .0,
+      (
+        record { top = p .1 .0 .0; bottom = p .1 .0 .1; left = omega arith; right = omega arith },
+        omega (arith, l .inv .1 .count, rowDue-short (mapsOf (a .l0 .now) (a .l1 .now) (a .l2 .now) (a .l3 .now) (a .f) (a .set) (a .th)) (a .row) (l .k)),
+      ),
+    )
+
+add-k : tie.Need-add-k Inv-loop μ-loop
+add-k c = omega arith
+
+loop-less : tie.Need-loop-less Inv-loop μ-loop
+loop-less c = omega arith
+
+loop-again : tie.Need-loop-again Inv-loop μ-loop
+unfolding rowDue
+loop-again c = (omega arith, rw add-one (laid-append (c .before .before .before .before .before .before .loop .inv .1) (c .before .before .pixel .ensures)))
+
+same-length : tie.Need-same-length Inv-loop μ-loop
+same-length c = laid-length (c .before .before .loop .inv .1)
+
+returns : tie.Need-returns Inv-loop μ-loop
+returns c = let e : c .before .before .loop .k ≡ c .before .before .before .before .before .before .before .before .args .f .cols - 8 = omega arith in rw e at (c .before .before .loop .inv .1)
+
+pub row-spots-spec : {M : Type 1} → statement M
+row-spots-spec = tie.close (tie.spec Inv-loop μ-loop loop-holds add-if1 add-pixel pixel-requires add-k loop-less loop-again same-length returns)

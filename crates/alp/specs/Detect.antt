@@ -1,0 +1,56 @@
+-- What detection answers, and what it leaves in the buffer, as one value of its input. Definitions only.
+use Prim.Native.Nat.{ℕ, _*_}
+use mathlib.Core.Bool.{Bool, true, false, not}
+use mathlib.Core.List.{List}
+use lib.ListN.{length}
+use lib.Dec.{ltb, eqb}
+use lib.Ieee.{Float}
+use Rattle.tables.specs.declared.Set.{Set}
+use Rattle.tables.specs.declared.Thresholds.{Thresholds}
+use Rattle.tables.specs.declared.Refusal.{Refusal}
+use Rattle.tables.specs.declared.Refusal.the-variants.{Size, Level, Octave, BadSet}
+use Rattle.tables.specs.declared.Checked.{Checked}
+use Rattle.tables.specs.declared.Checked.the-variants.{Fine, Bad}
+use Rattle.tables.specs.Set.{good}
+use Rattle.record.specs.Layout.{laid}
+use Rattle.alp.specs.Level.{Maps, mapsOf}
+use Rattle.alp.specs.Due.{due}
+use Rattle.alp.specs.declared.Answer.{Answer}
+use Rattle.alp.specs.declared.Answer.the-variants.{Found, Refused}
+
+-- refuse r where the test holds, and look further otherwise
+unfoldable pub unless : Bool → Refusal → Checked → Checked
+unless true r next = Bad r
+unless false r next = next
+
+-- detection's checks in their order: 1, 2, 3, 4
+unfoldable pub detectChecks : ℕ → ℕ → ℕ → ℕ → ℕ → ℕ → ℕ → Set → Checked
+detectChecks n0 n1 n2 n3 rows cols octave s =
+    unless (ltb 4096 rows) Size
+    (unless (ltb 4096 cols) Size
+    (unless (not (eqb n0 (rows * cols))) Level
+    (unless (not (eqb n1 (rows * cols))) Level
+    (unless (not (eqb n2 (rows * cols))) Level
+    (unless (not (eqb n3 (rows * cols))) Level
+    (unless (ltb 5 octave) Octave
+    (unless (not (good s)) BadSet Fine)))))))
+
+-- an answer, and the whole buffer after it
+pub record Outcome : Type 0 where
+  pub answer : Answer
+  pub buffer : List ℕ
+
+-- these two, given one by one
+abbrev pub outcome : Answer → List ℕ → Outcome
+outcome a b = record { answer = a; buffer = b }
+
+-- a refusal writes nothing; otherwise the full count is answered, and as many whole records as fit are written, first ones first
+unfoldable pub detected : Checked → Maps → List ℕ → Outcome
+detected (Bad r) m out = outcome (Refused r) out
+detected Fine m out = outcome (Found (length (due m))) (laid (due m) out)
+
+-- the whole of detection
+unfoldable pub detectOf : Set → Thresholds → ℕ → ℕ → ℕ → List Float → List Float → List Float → List Float → List ℕ → Outcome
+detectOf s th rows cols octave l0 l1 l2 l3 out =
+    detected (detectChecks (length l0) (length l1) (length l2) (length l3) rows cols octave s)
+    (mapsOf l0 l1 l2 l3 (record { rows = rows; cols = cols; octave = octave }) s th) out

@@ -1,0 +1,177 @@
+// Detection over four levels: the loops over the judged pixels, the records they list, and the refusals.
+ghost use mathlib.Core.Path.{_≡_};
+ghost use Prim.Native.Nat.{_+_, _-_, _<_, _≤_, _^_};
+ghost use lib.ListN.{length};
+ghost use Rattle.alp.specs.Level.{mapsOf, Within, Sized};
+ghost use Rattle.alp.specs.Due.{listed, pixelDue, rowDue, due, Laid};
+ghost use Rattle.alp.specs.Detect.{detectChecks};
+use crate::level;
+use pixel::Frame;
+use pixel::Verdict;
+use tables::Checked;
+use tables::Refusal;
+use tables::Set;
+use tables::Thresholds;
+
+// The first refusal that applies, in the order of their numbers.
+pub fn checked(
+    n0: usize,
+    n1: usize,
+    n2: usize,
+    n3: usize,
+    rows: usize,
+    cols: usize,
+    octave: usize,
+    set: Set,
+) -> Checked
+    ensures { λ r. ⌜ r ≡ detectChecks n0 n1 n2 n3 rows cols octave set ⌝ }
+{
+    if 4096 < rows {
+        return Checked::Bad(Refusal::Size);
+    }
+    if 4096 < cols {
+        return Checked::Bad(Refusal::Size);
+    }
+    let n = rows * cols;
+    if n0 != n {
+        return Checked::Bad(Refusal::Level);
+    }
+    if n1 != n {
+        return Checked::Bad(Refusal::Level);
+    }
+    if n2 != n {
+        return Checked::Bad(Refusal::Level);
+    }
+    if n3 != n {
+        return Checked::Bad(Refusal::Level);
+    }
+    if 5 < octave {
+        return Checked::Bad(Refusal::Octave);
+    }
+    if !tables::is_good(set) {
+        return Checked::Bad(Refusal::BadSet);
+    }
+    Checked::Fine
+}
+
+// What a verdict lists goes to place n; answers the next place.
+fn emit(out: &mut [u8], n: usize, v: Verdict) -> usize
+    requires { ⌜ n < 2 ^ 32 ⌝ }
+    ensures { λ r. ⌜ Laid (now (out .entry)) (now (out .exit)) n r (listed v) ⌝ }
+{
+    match v {
+        Verdict::Listed(r) => {
+            record::put_at(out, n, r);
+            n + 1
+        }
+        Verdict::Nothing => n,
+    }
+}
+
+// What a pixel lists, judged at both polarities: the minimum before the maximum.
+fn judged<'a>(
+    l0: &'a [f32],
+    l1: &'a [f32],
+    l2: &'a [f32],
+    l3: &'a [f32],
+    f: Frame,
+    set: Set,
+    th: Thresholds,
+    row: usize,
+    col: usize,
+    out: &mut [u8],
+    n: usize,
+) -> usize
+    requires { ⌜ Sized f (length (now l0)) (length (now l1)) (length (now l2)) (length (now l3)) ⌝ }
+    requires { ⌜ Within 4 f row col ⌝ }
+    requires { ⌜ n + 2 ≤ 2 ^ 32 ⌝ }
+    ensures { λ r. ⌜ Laid (now (out .entry)) (now (out .exit)) n r
+        (pixelDue (mapsOf (now (l0 .entry)) (now (l1 .entry)) (now (l2 .entry)) (now (l3 .entry)) f set th) row col) ⌝ }
+{
+    let sigmas = set.sigmas;
+    let nine = level::nine_at(l0, l1, l2, l3, f, sigmas, row, col);
+    let low = pixel::judge::verdict(set, th, f, &nine, row, col, false);
+    let m = emit(out, n, low);
+    let high = pixel::judge::verdict(set, th, f, &nine, row, col, true);
+    emit(out, m, high)
+}
+
+// What a pixel lists. Most pixels list nothing, as their own four samples tell.
+fn pixel<'a>(
+    l0: &'a [f32],
+    l1: &'a [f32],
+    l2: &'a [f32],
+    l3: &'a [f32],
+    f: Frame,
+    set: Set,
+    th: Thresholds,
+    row: usize,
+    col: usize,
+    out: &mut [u8],
+    n: usize,
+) -> usize
+    requires { ⌜ Sized f (length (now l0)) (length (now l1)) (length (now l2)) (length (now l3)) ⌝ }
+    requires { ⌜ Within 4 f row col ⌝ }
+    requires { ⌜ n + 2 ≤ 2 ^ 32 ⌝ }
+    ensures { λ r. ⌜ Laid (now (out .entry)) (now (out .exit)) n r
+        (pixelDue (mapsOf (now (l0 .entry)) (now (l1 .entry)) (now (l2 .entry)) (now (l3 .entry)) f set th) row col) ⌝ }
+{
+    let sigmas = set.sigmas;
+    let samples = level::samples_at(l0, l1, l2, l3, f, sigmas, row, col);
+    if !pixel::gate::may_list(set, th, samples) {
+        return n;
+    }
+    judged(l0, l1, l2, l3, f, set, th, row, col, out, n)
+}
+
+// What a row's judged pixels list, from place n on; answers the next place.
+fn row_spots<'a>(
+    l0: &'a [f32],
+    l1: &'a [f32],
+    l2: &'a [f32],
+    l3: &'a [f32],
+    f: Frame,
+    set: Set,
+    th: Thresholds,
+    row: usize,
+    out: &mut [u8],
+    n: usize,
+) -> usize
+    requires { ⌜ Sized f (length (now l0)) (length (now l1)) (length (now l2)) (length (now l3)) ⌝ }
+    requires { ⌜ (4 ≤ row) × (row + 4 < f .rows) ⌝ }
+    requires { ⌜ n + 8192 ≤ 2 ^ 32 ⌝ }
+    ensures { λ r. ⌜ Laid (now (out .entry)) (now (out .exit)) n r
+        (rowDue (mapsOf (now (l0 .entry)) (now (l1 .entry)) (now (l2 .entry)) (now (l3 .entry)) f set th) row (f .cols - 8)) ⌝ }
+{
+    let mut m = n;
+    let mut k: usize = 0;
+    while k + 8 < f.cols {
+        m = pixel(l0, l1, l2, l3, f, set, th, row, k + 4, out, m);
+        k += 1;
+    }
+    m
+}
+
+// The whole list, from the buffer's start on; answers its length.
+pub fn rows_spots<'a>(
+    l0: &'a [f32],
+    l1: &'a [f32],
+    l2: &'a [f32],
+    l3: &'a [f32],
+    f: Frame,
+    set: Set,
+    th: Thresholds,
+    out: &mut [u8],
+) -> usize
+    requires { ⌜ Sized f (length (now l0)) (length (now l1)) (length (now l2)) (length (now l3)) ⌝ }
+    ensures { λ r. ⌜ Laid (now (out .entry)) (now (out .exit)) 0 r
+        (due (mapsOf (now (l0 .entry)) (now (l1 .entry)) (now (l2 .entry)) (now (l3 .entry)) f set th)) ⌝ }
+{
+    let mut m: usize = 0;
+    let mut j: usize = 0;
+    while j + 8 < f.rows {
+        m = row_spots(l0, l1, l2, l3, f, set, th, j + 4, out, m);
+        j += 1;
+    }
+    m
+}

@@ -1,0 +1,12 @@
+-- The theorems on detection's list: Listed, Accepted, NotFinite, Samples, Clear, TwoMaps and Answers; the other modules serve them.
+pub mod Tests
+pub mod NotFinite
+pub mod Ring
+pub mod Samples
+pub mod Judge
+pub mod Places
+pub mod Listed
+pub mod Accepted
+pub mod Clear
+pub mod TwoMaps
+pub mod Answers

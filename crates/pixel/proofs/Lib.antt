@@ -1,0 +1,7 @@
+-- Laws of the judgement of one pixel.
+mod Tests
+mod NineLaws
+mod JudgeSteps
+pub mod GateLaws
+pub mod RingLaws
+pub mod VerdictLaws

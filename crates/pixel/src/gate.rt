@@ -1,0 +1,90 @@
+// A pixel's own gates, from its four samples.
+ghost use mathlib.Core.Path.{_≡_};
+ghost use mathlib.Core.Bool.{cond};
+ghost use lib.Ieee.{lt};
+ghost use Rattle.float.specs.Num.{f0};
+ghost use Rattle.fit.specs.Prims.{ours};
+ghost use Rattle.pixel.specs.Gate.{sigmaOf, peakOf, strongOf, curvedOf, gateBy};
+ghost use Rattle.pixel.specs.Verdict.{mayList};
+use fit::Envelope;
+use tables::Set;
+use tables::Thresholds;
+
+// The sigma of a polarity's extreme.
+pub fn sigma_of(e: Envelope, is_max: bool) -> f32
+    ensures { λ r. ⌜ r ≡ sigmaOf e «is_max» ⌝ }
+{
+    if is_max { e.smax } else { e.smin }
+}
+
+// The response there.
+pub fn peak_of(e: Envelope, is_max: bool) -> f32
+    ensures { λ r. ⌜ r ≡ peakOf e «is_max» ⌝ }
+{
+    if is_max { e.emax } else { e.emin }
+}
+
+// The peak is strictly beyond the threshold.
+fn strong(th: Thresholds, peak: f32, is_max: bool) -> bool
+    ensures { λ r. ⌜ r ≡ strongOf th peak «is_max» ⌝ }
+{
+    if is_max {
+        peak > th.peak
+    } else {
+        peak < -th.peak
+    }
+}
+
+// A curvature has the sign of the polarity: below 0 at a maximum, above 0 at a minimum.
+fn bends(c: f32, is_max: bool) -> bool
+    ensures { λ r. ⌜ r ≡ cond «is_max» (lt c f0) (lt f0 c) ⌝ }
+{
+    if is_max { c < 0.0 } else { c > 0.0 }
+}
+
+// The curvature is finite, of the right sign and strictly beyond the threshold in size.
+fn curved(th: Thresholds, k: [f32; 4], sigma: f32, is_max: bool) -> bool
+    ensures { λ r. ⌜ r ≡ curvedOf th k sigma «is_max» ⌝ }
+{
+    let c = fit::scale_fit::curvature(k, sigma);
+    float::is_finite(c) & bends(c, is_max) & (float::abs(c) > th.sigma)
+}
+
+// The gates of the extreme (sigma, peak) of the cubic k of the samples l.
+pub fn gate(th: Thresholds, l: [f32; 4], k: [f32; 4], sigma: f32, peak: f32, is_max: bool) -> bool
+    ensures { λ r. ⌜ r ≡ gateBy ours th l k sigma peak «is_max» ⌝ }
+{
+    if !fit::stream::is_within(th.low, th.high, sigma) {
+        return false;
+    }
+    if !strong(th, peak, is_max) {
+        return false;
+    }
+    if !curved(th, k, sigma, is_max) {
+        return false;
+    }
+    fit::scale_fit::owns_scale_extremum(l, is_max)
+}
+
+// The gates of a polarity's extreme of the envelope e.
+fn own_gate(th: Thresholds, l: [f32; 4], k: [f32; 4], e: Envelope, is_max: bool) -> bool
+    ensures { λ r. ⌜ r ≡ gateBy ours th l k (sigmaOf e «is_max») (peakOf e «is_max») «is_max» ⌝ }
+{
+    gate(th, l, k, sigma_of(e, is_max), peak_of(e, is_max), is_max)
+}
+
+// The pixel with the samples l may list a minimum or a maximum. Most pixels own neither, as comparisons alone tell; the envelope by branches takes a
+// root only where the discriminant is positive, once for both polarities.
+pub fn may_list(set: Set, th: Thresholds, l: [f32; 4]) -> bool
+    ensures { λ r. ⌜ r ≡ mayList set th l ⌝ }
+{
+    let low = fit::scale_fit::owns_scale_extremum(l, false);
+    let high = fit::scale_fit::owns_scale_extremum(l, true);
+    if !(low | high) {
+        return false;
+    }
+    let k = fit::scale_fit::apply_cubic_transform(&set.scale, l);
+    let sigmas = set.sigmas;
+    let e = fit::reference::polynomial_extrema(k, sigmas, l[0], l[3]);
+    own_gate(th, l, k, e, false) | own_gate(th, l, k, e, true)
+}
