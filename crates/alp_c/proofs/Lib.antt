@@ -1,0 +1,2 @@
+-- What the C face's promises settle.
+pub mod FaceLaws

@@ -1,0 +1,38 @@
+-- `uramsheg_detect` meets its contract.
+use borrow.Author.Needs.{needs}
+use Rattle.alp_c.specs.Face.{detectFace}
+use Rattle.alp_c.proofs.FaceLaws.{left-by}
+use Rattle.alp_c.proofs.uramsheg_detect.Statement.{statement}
+use Rattle.alp_c.proofs.uramsheg_detect.Tie as tie
+
+read-set-requires : tie.Need-read-set-requires
+read-set-requires c κs = search needs
+
+detect-requires : tie.Need-detect-requires
+detect-requires c κs = search needs
+
+value-of-requires : tie.Need-value-of-requires
+value-of-requires c κs = search needs
+
+number-of-requires : tie.Need-number-of-requires
+number-of-requires c κs = search needs
+
+same-length : tie.Need-same-length
+same-length c = search needs
+
+returns : tie.Need-returns
+unfolding detectFace
+returns c =
+    rw (← c .before .before .before .before .before .before .before .read-set .ensures)
+    (left-by (c .number-of .ensures) (c .before .value-of .ensures) (c .before .before .before .before .detect .ensures))
+
+pub uramsheg-detect-spec : {M : Type 1} → statement M
+uramsheg-detect-spec =
+    tie.close
+    (tie.spec
+    read-set-requires
+    detect-requires
+    value-of-requires
+    number-of-requires
+    same-length
+    returns)

@@ -1,0 +1,78 @@
+// The C face of detection: thin, each answer as a number and a value.
+ghost use mathlib.Core.Path.{_≡_};
+ghost use Rattle.tables.specs.Refusal.{readSetOf};
+ghost use Rattle.alp_c.specs.Face.{packed, left, thresholdsOf, detectFace, checkFace};
+use alp::Answer;
+use tables::Checked;
+use tables::Thresholds;
+
+// The number of an answer: 0, or that of the refusal.
+fn number_of(answer: Answer) -> u32
+    ensures { λ r. ⌜ r ≡ packed answer .number ⌝ }
+{
+    match answer {
+        Answer::Found(n) => 0,
+        Answer::Refused(why) => refusals::number_of(why),
+    }
+}
+
+// Its value: the count, or the index that goes with the refusal.
+fn value_of(answer: Answer) -> u64
+    ensures { λ r. ⌜ r ≡ packed answer .value ⌝ }
+{
+    match answer {
+        Answer::Found(n) => n as u64,
+        Answer::Refused(why) => refusals::index_of(why),
+    }
+}
+
+// Lists the spots of four levels in the buffer out, under the set in the record set. Answers 0, with the count in value, or the refusal's number, with
+// its index in value.
+#[no_mangle]
+pub extern "C" fn uramsheg_detect<'a>(
+    set: &'a [u8],
+    peak: f32,
+    sigma: f32,
+    ratio: f32,
+    low: f32,
+    high: f32,
+    rows: usize,
+    cols: usize,
+    octave: usize,
+    l0: &'a [f32],
+    l1: &'a [f32],
+    l2: &'a [f32],
+    l3: &'a [f32],
+    out: &mut [u8],
+    value: &mut u64,
+) -> u32
+    ensures { λ r. ⌜ left r (now (value .exit)) (now (out .exit))
+        ≡ detectFace (now (set .entry)) (thresholdsOf peak sigma ratio low high) rows cols octave
+        (now (l0 .entry)) (now (l1 .entry)) (now (l2 .entry)) (now (l3 .entry)) (now (out .entry)) ⌝ }
+{
+    let read = tables::read_set(set);
+    let thresholds = Thresholds {
+        peak: peak,
+        sigma: sigma,
+        ratio: ratio,
+        low: low,
+        high: high,
+    };
+    let tables = read.set;
+    let answer = alp::detect(tables, thresholds, rows, cols, octave, l0, l1, l2, l3, out);
+    *value = value_of(answer);
+    number_of(answer)
+}
+
+// Whether the record holds a good set: 0, or 4 where it is refused.
+#[no_mangle]
+pub extern "C" fn uramsheg_set_check(set: &[u8]) -> u32
+    ensures { λ r. ⌜ r ≡ checkFace (readSetOf (now (set .entry)) .answer) ⌝ }
+{
+    let read = tables::read_set(set);
+    let answer = read.answer;
+    match answer {
+        Checked::Fine => 0,
+        Checked::Bad(why) => refusals::number_of(why),
+    }
+}

@@ -1,0 +1,4 @@
+-- What the functions' proofs cite, and what the list program's promise settles.
+pub mod TextLaws
+pub mod InputLaws
+pub mod OutputLaws

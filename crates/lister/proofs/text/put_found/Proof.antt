@@ -1,0 +1,36 @@
+-- `text::put_found` meets its contract.
+use Rattle.lister.specs.Text.{foundLine}
+use Rattle.lister.proofs.TextLaws.{wrote-append}
+use borrow.Author.Needs.{needs}
+use Rattle.lister.proofs.text.put_found.Statement.{statement}
+use Rattle.lister.proofs.text.put_found.Tie as tie
+
+slice-aggregate-put-text : tie.Need-slice-aggregate-put-text
+slice-aggregate-put-text c = search needs
+
+put-text-requires : tie.Need-put-text-requires
+put-text-requires c κs = search needs
+
+put-decimal-requires : tie.Need-put-decimal-requires
+put-decimal-requires c κs = search needs
+
+push-requires : tie.Need-push-requires
+push-requires c κs = search needs
+
+same-length : tie.Need-same-length
+same-length c = search needs
+
+returns : tie.Need-returns
+unfolding foundLine
+returns c = wrote-append (c .before .before .before .before .before .before .before .before .before .before .put-text .ensures) (wrote-append (c .before .before .before .before .before .before .put-decimal .ensures .0) (c .before .before .push .ensures))
+
+pub put-found-spec : {M : Type 1} → statement M
+put-found-spec =
+    tie.close
+    (tie.spec
+    slice-aggregate-put-text
+    put-text-requires
+    put-decimal-requires
+    push-requires
+    same-length
+    returns)

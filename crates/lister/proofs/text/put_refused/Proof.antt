@@ -1,0 +1,40 @@
+-- `text::put_refused` meets its contract.
+use Rattle.lister.specs.Text.{refusedLine}
+use Rattle.lister.proofs.TextLaws.{wrote-append}
+use borrow.Author.Needs.{needs}
+use Rattle.lister.proofs.text.put_refused.Statement.{statement}
+use Rattle.lister.proofs.text.put_refused.Tie as tie
+
+slice-aggregate-put-text : tie.Need-slice-aggregate-put-text
+slice-aggregate-put-text c = search needs
+
+put-text-requires : tie.Need-put-text-requires
+put-text-requires c κs = search needs
+
+add-push : tie.Need-add-push
+add-push c = search needs
+
+push-requires : tie.Need-push-requires
+push-requires c κs = search needs
+
+push-requires-2 : tie.Need-push-requires-2
+push-requires-2 c κs = search needs
+
+same-length : tie.Need-same-length
+same-length c = search needs
+
+returns : tie.Need-returns
+unfolding refusedLine
+returns c = wrote-append (c .before .before .before .before .before .before .before .before .before .before .put-text .ensures) (wrote-append (c .before .before .before .before .before .before .push .ensures) (c .before .before .push2 .ensures))
+
+pub put-refused-spec : {M : Type 1} → statement M
+put-refused-spec =
+    tie.close
+    (tie.spec
+    slice-aggregate-put-text
+    put-text-requires
+    add-push
+    push-requires
+    push-requires-2
+    same-length
+    returns)

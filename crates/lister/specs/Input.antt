@@ -1,0 +1,67 @@
+-- The input's layout, and its checks. Definitions only.
+use Prim.Native.Nat.{ℕ, zero, suc, _+_, _*_}
+use mathlib.Core.Bool.{not}
+use mathlib.Core.List.{List, [], _∷_, _++_}
+use lib.ListN.{length, take}
+use lib.Dec.{ltb, eqb}
+use lib.Ieee.{Float}
+use Rattle.tables.specs.declared.Set.{Set}
+use Rattle.tables.specs.declared.Thresholds.{Thresholds}
+use Rattle.tables.specs.declared.Refusal.the-variants.{Size, Level}
+use Rattle.tables.specs.declared.Checked.{Checked}
+use Rattle.tables.specs.declared.Checked.the-variants.{Fine}
+use Rattle.tables.specs.Refusal.{readSetOf}
+use Rattle.record.specs.Layout.{wordFrom, floatFrom}
+use Rattle.alp.specs.Level.{Maps, mapsOf}
+use Rattle.alp.specs.Detect.{Outcome, unless, detectOf}
+
+-- the set, in the first 528 bytes
+abbrev pub setFrom : List ℕ → Set
+setFrom b = readSetOf (take 528 b) .set
+
+-- five thresholds
+abbrev pub thresholdsFrom : List ℕ → Thresholds
+thresholdsFrom b = record { peak = floatFrom b 528; sigma = floatFrom b 532; ratio = floatFrom b 536; low = floatFrom b 540; high = floatFrom b 544 }
+
+-- rows
+abbrev pub rowsFrom : List ℕ → ℕ
+rowsFrom b = wordFrom b 548
+
+-- cols
+abbrev pub colsFrom : List ℕ → ℕ
+colsFrom b = wordFrom b 552
+
+-- octave
+abbrev pub octaveFrom : List ℕ → ℕ
+octaveFrom b = wordFrom b 556
+
+-- the pixels of a level
+abbrev pub areaFrom : List ℕ → ℕ
+areaFrom b = rowsFrom b * colsFrom b
+
+-- n floats that begin at the byte at
+unfoldable pub floatsFrom : ℕ → List ℕ → ℕ → List Float
+floatsFrom zero b at = []
+floatsFrom (suc n) b at = floatsFrom n b at ++ (floatFrom b (at + 4 * n) ∷ [])
+
+-- level k of the four, which follow the header of 560 bytes
+abbrev pub levelFrom : List ℕ → ℕ → List Float
+levelFrom b k = floatsFrom (areaFrom b) b (560 + 4 * k * areaFrom b)
+
+-- 2 at once for a header cut short, 1 for a side above 60, then 2 for any wrong input length
+unfoldable pub listChecks : List ℕ → Checked
+listChecks b =
+    unless (ltb (length b) 560) Level
+    (unless (ltb 60 (rowsFrom b)) Size
+    (unless (ltb 60 (colsFrom b)) Size
+    (unless (not (eqb (length b) (560 + 16 * areaFrom b))) Level Fine)))
+
+-- detection of what the input holds, with its list in the buffer out
+unfoldable pub detectFrom : List ℕ → List ℕ → Outcome
+detectFrom b out =
+    detectOf (setFrom b) (thresholdsFrom b) (rowsFrom b) (colsFrom b) (octaveFrom b) (levelFrom b 0) (levelFrom b 1) (levelFrom b 2) (levelFrom b 3) out
+
+-- the four levels with what they are judged by
+abbrev pub mapsFrom : List ℕ → Maps
+mapsFrom b =
+    mapsOf (levelFrom b 0) (levelFrom b 1) (levelFrom b 2) (levelFrom b 3) (record { rows = rowsFrom b; cols = colsFrom b; octave = octaveFrom b }) (setFrom b) (thresholdsFrom b)

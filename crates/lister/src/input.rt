@@ -1,0 +1,138 @@
+// What is read of the input: its checks, its levels, and detection of what it holds.
+ghost use mathlib.Core.Path.{_≡_};
+ghost use Prim.Native.Nat.{_+_, _*_, _<_, _≤_};
+ghost use lib.ListN.{length, take};
+ghost use Rattle.tables.specs.declared.Checked.the-variants.{Fine};
+ghost use Rattle.alp.specs.Detect.{outcome};
+ghost use Rattle.record.specs.Layout.{wordFrom};
+ghost use Rattle.lister.specs.Input.{setFrom, thresholdsFrom, areaFrom, floatsFrom, levelFrom, listChecks, detectFrom};
+use alp::Answer;
+use tables::Checked;
+use tables::Refusal;
+use tables::Set;
+use tables::Thresholds;
+
+// The word at the byte at, as a count.
+fn count_from(input: &[u8], at: usize) -> usize
+    requires { ⌜ at + 4 ≤ length (now input) ⌝ }
+    ensures { λ r. ⌜ r ≡ wordFrom (now (input .entry)) at ⌝ }
+{
+    record::word_from(input, at) as usize
+}
+
+// How long the input of a tile is: its header, and four levels.
+fn whole_length(rows: usize, cols: usize) -> usize
+    requires { ⌜ rows ≤ 60 ⌝ }
+    requires { ⌜ cols ≤ 60 ⌝ }
+    ensures { λ r. ⌜ r ≡ 560 + 16 * (rows * cols) ⌝ }
+{
+    560 + 16 * (rows * cols)
+}
+
+// The first refusal of the input itself, in its order.
+pub fn checked(input: &[u8]) -> Checked
+    ensures { λ r. ⌜ r ≡ listChecks (now (input .entry)) ⌝ }
+{
+    if input.len() < 560 {
+        return Checked::Bad(Refusal::Level);
+    }
+    let rows = count_from(input, 548);
+    if 60 < rows {
+        return Checked::Bad(Refusal::Size);
+    }
+    let cols = count_from(input, 552);
+    if 60 < cols {
+        return Checked::Bad(Refusal::Size);
+    }
+    if input.len() != whole_length(rows, cols) {
+        return Checked::Bad(Refusal::Level);
+    }
+    Checked::Fine
+}
+
+// The set in the first 528 bytes, that of zeros where it is refused.
+fn set_from(input: &[u8]) -> Set
+    requires { ⌜ 528 ≤ length (now input) ⌝ }
+    ensures { λ r. ⌜ r ≡ setFrom (now (input .entry)) ⌝ }
+{
+    let read = tables::read_set(&input[..528]);
+    read.set
+}
+
+// The five thresholds.
+fn thresholds_from(input: &[u8]) -> Thresholds
+    requires { ⌜ 548 ≤ length (now input) ⌝ }
+    ensures { λ r. ⌜ r ≡ thresholdsFrom (now (input .entry)) ⌝ }
+{
+    Thresholds {
+        peak: record::float_from(input, 528),
+        sigma: record::float_from(input, 532),
+        ratio: record::float_from(input, 536),
+        low: record::float_from(input, 540),
+        high: record::float_from(input, 544),
+    }
+}
+
+// The n floats that begin at the byte at, at an array's start.
+fn floats_from(input: &[u8], at: usize, n: usize) -> [f32; 3600]
+    requires { ⌜ at + 4 * n ≤ length (now input) ⌝ }
+    requires { ⌜ n ≤ 3600 ⌝ }
+    ensures { λ r. ⌜ (take n r ≡ floatsFrom n (now (input .entry)) at) × (length r ≡ 3600) ⌝ }
+{
+    let mut floats = [0.0f32; 3600];
+    let mut k: usize = 0;
+    while k < n {
+        floats[k] = record::float_from(input, at + 4 * k);
+        k += 1;
+    }
+    floats
+}
+
+// The pixels of a level.
+fn area_from(input: &[u8]) -> usize
+    requires { ⌜ listChecks (now input) ≡ Fine ⌝ }
+    ensures { λ r. ⌜ (r ≡ areaFrom (now (input .entry))) × (r ≤ 3600) ⌝ }
+{
+    let rows = count_from(input, 548);
+    let cols = count_from(input, 552);
+    rows * cols
+}
+
+// Level k, at an array's start.
+fn level_from(input: &[u8], k: usize) -> [f32; 3600]
+    requires { ⌜ listChecks (now input) ≡ Fine ⌝ }
+    requires { ⌜ k < 4 ⌝ }
+    ensures { λ r. ⌜ (take (areaFrom (now (input .entry))) r ≡ levelFrom (now (input .entry)) k) × (length r ≡ 3600) ⌝ }
+{
+    let n = area_from(input);
+    floats_from(input, 560 + 4 * k * n, n)
+}
+
+// Detects what the input holds, with its list in the buffer out.
+pub fn detect_from(input: &[u8], out: &mut [u8]) -> Answer
+    requires { ⌜ listChecks (now input) ≡ Fine ⌝ }
+    ensures { λ r. ⌜ outcome r (now (out .exit)) ≡ detectFrom (now (input .entry)) (now (out .entry)) ⌝ }
+{
+    let rows = count_from(input, 548);
+    let cols = count_from(input, 552);
+    let octave = count_from(input, 556);
+    let n = area_from(input);
+    let l0 = level_from(input, 0);
+    let l1 = level_from(input, 1);
+    let l2 = level_from(input, 2);
+    let l3 = level_from(input, 3);
+    let set = set_from(input);
+    let thresholds = thresholds_from(input);
+    alp::detect(
+        set,
+        thresholds,
+        rows,
+        cols,
+        octave,
+        &l0[..n],
+        &l1[..n],
+        &l2[..n],
+        &l3[..n],
+        out,
+    )
+}

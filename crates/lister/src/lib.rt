@@ -1,0 +1,57 @@
+// The list program's work on bytes: from its input to its output.
+mod input; // input.rt: what is read of the input
+mod text; // text.rt: what is written to the output
+
+ghost use mathlib.Core.Path.{_≡_};
+ghost use Prim.Native.Nat.{min};
+ghost use Rattle.io.specs.Counts.{Counts};
+ghost use Rattle.tables.specs.declared.Checked.the-variants.{Fine};
+ghost use Rattle.lister.specs.Input.{listChecks};
+ghost use Rattle.lister.specs.Output.{tileOutput, listOutput, Begins};
+use alp::Answer;
+use tables::Checked;
+
+// How many of the records found are printed: the first 1,600.
+fn shown(count: usize) -> usize
+    ensures { λ r. ⌜ r ≡ min 1600 count ⌝ }
+{
+    if count < 1600 { count } else { 1600 }
+}
+
+// What a tile of the right length prints.
+fn list_tile(input: &[u8], out: &mut [u8; 129640]) -> usize
+    requires { ⌜ listChecks (now input) ≡ Fine ⌝ }
+    ensures { λ r. ⌜ Begins (now (out .exit)) r (tileOutput (now (input .entry))) ⌝ }
+{
+    let mut records = [0u8; 64000];
+    let answer = input::detect_from(input, &mut records);
+    match answer {
+        Answer::Found(count) => {
+            let printed = shown(count);
+            let end = text::put_lines(out, 0, &records, printed);
+            text::put_found(out, end, count)
+        }
+        Answer::Refused(why) => text::put_refused(out, 0, refusals::number_of(why) as u8),
+    }
+}
+
+// Puts the output for the input at the start of out, and answers its length.
+pub fn list(input: &[u8], out: &mut [u8; 129640]) -> usize
+    ensures { λ r. ⌜ Begins (now (out .exit)) r (listOutput (now (input .entry))) ⌝ }
+    ensures { λ r. ⌜ Counts r (now (out .exit)) ⌝ }
+{
+    let check = input::checked(input);
+    match check {
+        Checked::Bad(why) => text::put_refused(out, 0, refusals::number_of(why) as u8),
+        Checked::Fine => list_tile(input, out),
+    }
+}
+
+// Lists standard input, of which one byte more than the longest input is read, to standard output.
+pub fn run() {
+    let mut input = [0u8; 58161];
+    let n = io::read_full(0, &mut input);
+    let mut out = [0u8; 129640];
+    let r = list(&input[..n], &mut out);
+    io::write_all(1, &out[..r]);
+}
