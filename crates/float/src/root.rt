@@ -1,18 +1,30 @@
 // The square root of an f32: the root of a whole number of 47 or 48 binary digits, rounded.
 ghost use mathlib.Core.Path.{_≡_};
-ghost use Prim.Native.Nat.{_<_, _*_, _^_};
+ghost use Prim.Native.Nat.{_+_, _*_, _^_, _≤_, _<_};
 ghost use Rattle.float.specs.Root.{isqrt, nearRoot};
 ghost use Rattle.float.specs.Pattern.{unitsOf};
 ghost use Rattle.float.specs.Sqrt.{sqrtOf, rootPattern};
 use crate::bits::field;
 use crate::bits::lead;
 
+// A number not below the cut root of n: one step of Newton's iteration from the power of two near it, so that few are left.
+fn first_step(n: u64) -> u64
+    requires { ⌜ n < 2 ^ 48 ⌝ }
+    ensures { λ r. ⌜ (n < (r + 1) * (r + 1)) × (r ≤ 0x100_0000) ⌝ }
+{
+    if n < 0x8000_0000_0000 {
+        (0x80_0000 + n / 0x80_0000) / 2
+    } else {
+        (0x100_0000 + n / 0x100_0000) / 2
+    }
+}
+
 // The root of n, cut to a whole number, by Newton's iteration from above.
 fn root_of(n: u64) -> u64
     requires { ⌜ n < 2 ^ 48 ⌝ }
     ensures { λ r. ⌜ r ≡ isqrt n ⌝ }
 {
-    let mut r: u64 = 0x100_0000;
+    let mut r = first_step(n);
     while n < r * r {
         r = (r + n / r) / 2;
     }

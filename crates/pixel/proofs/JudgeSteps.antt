@@ -8,6 +8,7 @@ use Rattle.tables.specs.declared.Set.{Set}
 use Rattle.tables.specs.declared.Thresholds.{Thresholds}
 use Rattle.fit.specs.Prims.{ours}
 use Rattle.fit.specs.Band.{bandOf}
+use Rattle.fit.specs.Owns.{ownsOf}
 use Rattle.refine.specs.Refine.{refineOf}
 use Rattle.refine.specs.declared.Spot.{Spot}
 use Rattle.pixel.specs.Gate.{gateBy}
@@ -17,6 +18,7 @@ use Rattle.pixel.specs.Rules.{cubicsAt, ownSamples, ownCubic, ownSigma, 
 use Rattle.pixel.specs.declared.Frame.{Frame}
 use Rattle.pixel.specs.declared.Verdict.the-variants.{Nothing}
 use Rattle.pixel.proofs.Tests.{and-false, and-assoc}
+use Rattle.pixel.proofs.GateLaws.{unowned-fails}
 
 -- the gates pass, and the peak beats the eight neighbours
 abbrev pub StandsOut : Set → Thresholds → List (List Float) → Spot → Bool
@@ -31,6 +33,11 @@ module _ (s : Set) (th : Thresholds) (f : Frame) (nine : List (List Float)) (row
   hidden-here : StandsOut s th nine anchored ≡ false → Nothing ≡ verdictOf s th f nine row col isMax
   unfolding verdictBy anchorOf
   hidden-here h = rw (and-assoc, h, and-false)
+
+  -- a pixel that does not own the extremum lists nothing
+  pub unowned : ownsOf (ownSamples nine) isMax ≡ false → Nothing ≡ verdictOf s th f nine row col isMax
+  unfolding verdictBy
+  unowned h = rw (unowned-fails th (ownSamples nine) (ownCubic s nine) (ownSigma s nine isMax) (ownPeak s nine isMax) isMax h, and-false (wholeOf nine))
 
   shown-here : StandsOut s th nine anchored ≡ true → wholeOf nine ≡ true →
       admitOf f (ownSamples nine) (row * f .cols + col) (refineOf s (th .ratio) (cubicsAt s nine) anchored) ≡ verdictOf s th f nine row col isMax

@@ -192,8 +192,8 @@ fn refined(
     )
 }
 
-// What the pixel (row, col) lists at one polarity. Few pixels stand out: the test of all samples comes after.
-pub fn verdict(
+// What a pixel that owns its extremum lists. Few pixels stand out: the test of all samples comes after.
+fn owned_verdict(
     set: Set,
     th: Thresholds,
     f: Frame,
@@ -217,4 +217,25 @@ pub fn verdict(
         return Verdict::Nothing;
     }
     refined(set, th, f, l, &k, key_of(row, f.cols, col), spot)
+}
+
+// What the pixel (row, col) lists at one polarity. Most own one polarity at most, as comparisons alone tell.
+pub fn verdict(
+    set: Set,
+    th: Thresholds,
+    f: Frame,
+    nine: &[[f32; 4]; 9],
+    row: usize,
+    col: usize,
+    is_max: bool,
+) -> Verdict
+    requires { ⌜ (row ≤ 4096) × (col ≤ 4096) ⌝ }
+    requires { ⌜ (f .rows ≤ 4096) × (f .cols ≤ 4096) ⌝ }
+    ensures { λ r. ⌜ r ≡ verdictOf set th f (now (nine .entry)) row col «is_max» ⌝ }
+{
+    let l = nine[4];
+    if !fit::scale_fit::owns_scale_extremum(l, is_max) {
+        return Verdict::Nothing;
+    }
+    owned_verdict(set, th, f, nine, row, col, is_max)
 }

@@ -3,6 +3,8 @@
 mod judged;
 mod own;
 mod plan;
+#[cfg(feature = "probe")]
+mod probed;
 mod search;
 mod tally;
 
@@ -18,6 +20,8 @@ use tally::Tally;
 const USE: &str = "use: compare own [SEED [TIMES]]
      compare tally [SEED [TIMES]]
      compare run SEED TIMES PROGRAM [ARGUMENTS]
+     compare archive SEED TIMES               (built with the feature `archive`)
+     compare probe SEED CASES_A_FUNCTION      (built with the feature `probe`)
      compare one FAMILY SEED NUMBER [PLACE VALUE_BITS] [-- PROGRAM [ARGUMENTS]]
      compare store FILE [SEED]
      compare stored FILE";
@@ -37,8 +41,17 @@ fn main() -> ExitCode {
         Some("own") => own(number(1, SEED), number(2, 1) as usize),
         Some("tally") => tally(number(1, SEED), number(2, 1) as usize),
         Some("run") if words.len() > 3 => {
-            run(number(1, SEED), number(2, 1) as usize, &arguments[3..])
+            let mut program = Process::new(arguments[3..].to_vec());
+            run(number(1, SEED), number(2, 1) as usize, &mut program)
         }
+        #[cfg(feature = "archive")]
+        Some("archive") => run(
+            number(1, SEED),
+            number(2, 1) as usize,
+            &mut subject::archive::Archive,
+        ),
+        #[cfg(feature = "probe")]
+        Some("probe") if words.len() > 2 => probed::run(number(1, SEED), number(2, 1) as usize),
         Some("one") if words.len() > 3 => one(&words[1..]),
         Some("store") if words.len() > 1 => store(words[1], number(2, SEED)),
         Some("stored") if words.len() > 1 => stored(words[1]),
@@ -101,16 +114,15 @@ fn tally(seed: u64, times: usize) -> bool {
     )
 }
 
-/// A list program against the judge.
-fn run(seed: u64, times: usize, command: &[String]) -> bool {
-    let mut subject = Process::new(command.to_vec());
+/// A subject against the judge.
+fn run(seed: u64, times: usize, subject: &mut dyn Subject) -> bool {
     let mut judge = Judge::sound();
     let mut all_sound = true;
     for family in plan::families() {
         let begun = Instant::now();
         let (mut compared, mut differing, mut fault) = (0, 0, None);
         plan::each(family, seed, times, |one| {
-            let Some(given) = answer(&mut subject, &one.case) else {
+            let Some(given) = answer(subject, &one.case) else {
                 return;
             };
             let sound = answer(&mut judge, &one.case).unwrap_or_default();

@@ -1,11 +1,22 @@
-//! Replays the stored list against a list program; the published text is not needed.
+//! Replays the stored list against a list program or the archive; the published text is not needed.
 
 use std::process::ExitCode;
 use std::time::Instant;
+use subject::Subject;
 use subject::process::Process;
 use subject::stored::{read, replay};
 
-const USE: &str = "use: replay STORED_LIST PROGRAM [ARGUMENTS]";
+const USE: &str = "use: replay STORED_LIST PROGRAM [ARGUMENTS]
+     replay STORED_LIST --archive      (built with the feature `archive`)";
+
+/// The subject that the words name.
+fn named(command: Vec<String>) -> Box<dyn Subject> {
+    #[cfg(feature = "archive")]
+    if command[0] == "--archive" {
+        return Box::new(subject::archive::Archive);
+    }
+    Box::new(Process::new(command))
+}
 
 fn main() -> ExitCode {
     let mut arguments = std::env::args().skip(1);
@@ -20,11 +31,11 @@ fn main() -> ExitCode {
     }
     let bytes = std::fs::read(&path).unwrap_or_else(|error| panic!("{path}: {error}"));
     let sections = read(&bytes).unwrap_or_else(|| panic!("{path} is no stored list"));
-    let mut subject = Process::new(command);
+    let mut subject = named(command);
     let mut sound = true;
     for section in &sections {
         let begun = Instant::now();
-        let outcome = replay(section, &mut subject);
+        let outcome = replay(section, subject.as_mut());
         if outcome.offered == 0 {
             continue;
         }

@@ -2,6 +2,10 @@
 
 use cases::{Case, Scene, Set};
 
+#[cfg(feature = "archive")]
+pub mod archive;
+#[cfg(feature = "probe")]
+pub mod probe;
 pub mod process;
 pub mod stored;
 

@@ -2,6 +2,7 @@
 use Prim.Native.Nat.{ℕ, _+_, _*_, _^_, _≤_, _<_}
 use native.Mathlib.Nat.{le-trans, le-of-lt, lt-of-le-of-lt, mul-le-mul, div-le-self}
 use native.Mathlib.Omega.{arith}
+use borrow.Author.Needs.{needs}
 use lib.Dec.{lit<}
 use Rattle.float.proofs.Newton.{newton-above, newton-below, sq-pos}
 use Rattle.float.proofs.Roots.{isqrt-is}
@@ -14,8 +15,11 @@ Inv-loop n r₀ r = (n < (r + 1) * (r + 1)) × (r ≤ 16777216)
 abbrev μ-loop : tie.MeasureT-loop
 μ-loop n r₀ r = r
 
+first-step-requires : tie.Need-first-step-requires Inv-loop μ-loop
+first-step-requires c κs = search needs
+
 loop-holds : tie.Need-loop-holds Inv-loop μ-loop
-loop-holds c = omega arith
+loop-holds c = c .first-step .ensures
 
 square-fits : (r : ℕ) → r ≤ 16777216 → r * r < 2 ^ 64
 square-fits r h = lt-of-le-of-lt (mul-le-mul h h) (lit< tt)
@@ -24,24 +28,24 @@ mul-loop : tie.Need-mul-loop Inv-loop μ-loop
 mul-loop c = record { fits = square-fits (c .loop .r) (c .loop .inv .1) }
 
 div-r : tie.Need-div-r Inv-loop μ-loop
-div-r c = sq-pos (c .before .before .args .n) (c .before .loop .r) (c .loop-test .taken)
+div-r c = sq-pos (c .before .before .before .args .n) (c .before .loop .r) (c .loop-test .taken)
 
 add-r : tie.Need-add-r Inv-loop μ-loop
-add-r c = omega (arith, div-le-self (c .before .before .args .n) (c .before .loop .r))
+add-r c = omega (arith, div-le-self (c .before .before .before .args .n) (c .before .loop .r))
 
 loop-less : tie.Need-loop-less Inv-loop μ-loop
-loop-less c = newton-below (c .before .before .args .n) (c .before .loop .r) (c .loop-test .taken)
+loop-less c = newton-below (c .before .before .before .args .n) (c .before .loop .r) (c .loop-test .taken)
 
 loop-again : tie.Need-loop-again Inv-loop μ-loop
 loop-again c =
-    let n = c .before .before .args .n in
+    let n = c .before .before .before .args .n in
     let r = c .before .loop .r in
     (newton-above n r (sq-pos n r (c .loop-test .taken)), le-trans (le-of-lt (newton-below n r (c .loop-test .taken))) (c .before .loop .inv .1))
 
 returns : tie.Need-returns Inv-loop μ-loop
-returns c = isqrt-is (c .before .before .args .n) (c .before .loop .r) (c .before .before .pre) (c .loop-test .left) (c .before .loop .inv .0)
+returns c = isqrt-is (c .before .before .before .args .n) (c .before .loop .r) (c .before .before .before .pre) (c .loop-test .left) (c .before .loop .inv .0)
 
 pub root-of-spec : {M : Type 1} → statement M
 root-of-spec =
     tie.close
-    (tie.spec Inv-loop μ-loop loop-holds mul-loop div-r add-r loop-less loop-again returns)
+    (tie.spec Inv-loop μ-loop first-step-requires loop-holds mul-loop div-r add-r loop-less loop-again returns)

@@ -1,0 +1,2 @@
+-- What the exported inner functions answer.
+pub mod Probe

@@ -1,0 +1,229 @@
+//! The proved inner functions, one number a call, as the archive of the crate `probe` exports them.
+
+use crate::Subject;
+use cases::Set;
+
+/// A slice is passed as its start and its length.
+mod raw {
+    unsafe extern "C" {
+        pub safe fn probe_horner(a: f32, b: f32, c: f32, d: f32, s: f32) -> f32;
+        pub safe fn probe_extreme(
+            a: f32,
+            b: f32,
+            c: f32,
+            d: f32,
+            low: f32,
+            high: f32,
+            is_max: bool,
+        ) -> f32;
+        pub safe fn probe_owns(l0: f32, l1: f32, l2: f32, l3: f32, is_max: bool) -> bool;
+        pub fn probe_cubic(
+            set: *const u8,
+            set_length: usize,
+            geometry: bool,
+            l0: f32,
+            l1: f32,
+            l2: f32,
+            l3: f32,
+            i: usize,
+        ) -> f32;
+        pub fn probe_band(set: *const u8, set_length: usize, sigma: f32, high: bool) -> f32;
+        pub fn probe_envelope(
+            set: *const u8,
+            set_length: usize,
+            l0: f32,
+            l1: f32,
+            l2: f32,
+            l3: f32,
+            i: usize,
+        ) -> f32;
+        pub fn probe_extrema(
+            set: *const u8,
+            set_length: usize,
+            a: f32,
+            b: f32,
+            c: f32,
+            d: f32,
+            l0: f32,
+            l3: f32,
+            i: usize,
+        ) -> f32;
+        pub fn probe_index(set: *const u8, set_length: usize, sigma: f32) -> u8;
+        pub fn probe_spatial(
+            set: *const u8,
+            set_length: usize,
+            index: u8,
+            values: *const f32,
+            values_length: usize,
+            i: usize,
+        ) -> f32;
+        pub fn probe_refine(
+            set: *const u8,
+            set_length: usize,
+            k: *const f32,
+            k_length: usize,
+            x: f32,
+            y: f32,
+            sigma: f32,
+            peak: f32,
+            is_max: bool,
+            ratio: f32,
+            i: usize,
+        ) -> f32;
+    }
+}
+
+pub use raw::{probe_extreme, probe_horner, probe_owns};
+
+/// The i-th coefficient of the cubic in log2 of sigma, or of the one in sigma.
+pub fn probe_cubic(set: &[u8], geometry: bool, samples: [f32; 4], i: usize) -> f32 {
+    let [l0, l1, l2, l3] = samples;
+    // SAFETY: the function is proved total and reads the lent slice alone; so is each below.
+    unsafe { raw::probe_cubic(set.as_ptr(), set.len(), geometry, l0, l1, l2, l3, i) }
+}
+
+/// The high or the low end of the band.
+pub fn probe_band(set: &[u8], sigma: f32, high: bool) -> f32 {
+    unsafe { raw::probe_band(set.as_ptr(), set.len(), sigma, high) }
+}
+
+/// The i-th number of the envelope of four samples.
+pub fn probe_envelope(set: &[u8], samples: [f32; 4], i: usize) -> f32 {
+    let [l0, l1, l2, l3] = samples;
+    unsafe { raw::probe_envelope(set.as_ptr(), set.len(), l0, l1, l2, l3, i) }
+}
+
+/// The i-th number of the envelope of a cubic and the two end samples.
+pub fn probe_extrema(set: &[u8], cubic: [f32; 4], l0: f32, l3: f32, i: usize) -> f32 {
+    let [a, b, c, d] = cubic;
+    unsafe { raw::probe_extrema(set.as_ptr(), set.len(), a, b, c, d, l0, l3, i) }
+}
+
+/// The inner level whose fit a sigma takes.
+pub fn probe_index(set: &[u8], sigma: f32) -> u8 {
+    unsafe { raw::probe_index(set.as_ptr(), set.len(), sigma) }
+}
+
+/// The i-th of w1 to w5.
+pub fn probe_spatial(set: &[u8], index: u8, values: &[f32], i: usize) -> f32 {
+    unsafe {
+        raw::probe_spatial(
+            set.as_ptr(),
+            set.len(),
+            index,
+            values.as_ptr(),
+            values.len(),
+            i,
+        )
+    }
+}
+
+/// A spot to be refined: its octave and its scale index are 0.
+#[derive(Clone, Copy)]
+pub struct Fresh {
+    pub x: f32,
+    pub y: f32,
+    pub sigma: f32,
+    pub peak: f32,
+    pub is_max: bool,
+}
+
+/// The i-th number that the refinement leaves: accepted, x, y, sigma, peak, scale index.
+pub fn probe_refine(set: &[u8], cubics: &[f32], spot: Fresh, ratio: f32, i: usize) -> f32 {
+    let Fresh {
+        x,
+        y,
+        sigma,
+        peak,
+        is_max,
+    } = spot;
+    unsafe {
+        raw::probe_refine(
+            set.as_ptr(),
+            set.len(),
+            cubics.as_ptr(),
+            cubics.len(),
+            x,
+            y,
+            sigma,
+            peak,
+            is_max,
+            ratio,
+            i,
+        )
+    }
+}
+
+/// The inner functions that the archive has, by the names of the cases.
+pub const FUNCTIONS: [&str; 11] = [
+    "compute_poly_coeffs",
+    "geometry_poly_coeffs",
+    "horner",
+    "neighbor_scale_band",
+    "band_extreme",
+    "owns_scale_extremum",
+    "scale_envelope",
+    "polynomial_extrema",
+    "get_q_scale_index",
+    "fit_spatial_quadratic",
+    "refine_keypoint_2d",
+];
+
+/// The archive as a subject: it offers the functions of `FUNCTIONS` alone.
+pub struct Probe;
+
+fn bit(value: bool) -> f32 {
+    if value { 1.0 } else { 0.0 }
+}
+
+fn each(count: usize, number: impl FnMut(usize) -> f32) -> Vec<f32> {
+    (0..count).map(number).collect()
+}
+
+impl Subject for Probe {
+    fn name(&self) -> String {
+        "the proved inner functions".to_string()
+    }
+
+    fn inner(&mut self, function: &str, set: &Set, words: &[f32]) -> Option<Vec<f32>> {
+        if !FUNCTIONS.contains(&function) {
+            return None;
+        }
+        let set = &set.record();
+        let four: [f32; 4] = core::array::from_fn(|place| words.get(place).copied().unwrap_or(0.0));
+        let [a, b, c, d] = four;
+        Some(match function {
+            "compute_poly_coeffs" => each(4, |i| probe_cubic(set, false, four, i)),
+            "geometry_poly_coeffs" => each(4, |i| probe_cubic(set, true, four, i)),
+            "horner" => vec![probe_horner(a, b, c, d, words[4])],
+            "neighbor_scale_band" => each(2, |i| probe_band(set, a, i == 1)),
+            "band_extreme" => {
+                let is_max = words[6] == 1.0;
+                vec![probe_extreme(a, b, c, d, words[4], words[5], is_max)]
+            }
+            "owns_scale_extremum" => vec![bit(probe_owns(a, b, c, d, words[4] == 1.0))],
+            "scale_envelope" => each(4, |i| probe_envelope(set, four, i)),
+            "polynomial_extrema" => each(4, |i| probe_extrema(set, four, words[4], words[5], i)),
+            "get_q_scale_index" => vec![f32::from(probe_index(set, a))],
+            "fit_spatial_quadratic" => each(5, |i| probe_spatial(set, a as u8, &words[1..], i)),
+            _ => return refine(set, words),
+        })
+    }
+}
+
+/// x, y, sigma, peak, scale index, polarity, ratio limit, 36 coefficients; only a scale index of 0 is offered, and the polarity is handed back.
+fn refine(set: &[u8], words: &[f32]) -> Option<Vec<f32>> {
+    if words[4] != 0.0 {
+        return None;
+    }
+    let spot = Fresh {
+        x: words[0],
+        y: words[1],
+        sigma: words[2],
+        peak: words[3],
+        is_max: words[5] == 1.0,
+    };
+    let mut left = each(6, |i| probe_refine(set, &words[7..], spot, words[6], i));
+    left.push(bit(spot.is_max));
+    Some(left)
+}
