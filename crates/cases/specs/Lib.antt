@@ -1,0 +1,2 @@
+-- The worked cases, in one table.
+pub mod Table
