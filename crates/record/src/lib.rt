@@ -75,7 +75,7 @@ fn put_floats(out: &mut [u8], at: usize, a: f32, b: f32, c: f32, d: f32)
 }
 
 // Four bytes.
-fn put_tail(out: &mut [u8], at: usize, a: u8, b: u8, c: u8, d: u8)
+pub fn put_bytes(out: &mut [u8], at: usize, a: u8, b: u8, c: u8, d: u8)
     requires { ⌜ at + 4 ≤ length (now out) ⌝ }
     ensures { λ _. ⌜ now (out .exit) ≡ sets (now (out .entry)) at (a ∷ b ∷ c ∷ d ∷ []) ⌝ }
 {
@@ -93,7 +93,7 @@ pub fn put_record(out: &mut [u8], at: usize, r: Record)
     put_floats(out, at, r.x, r.y, r.sigma, r.peak);
     put_floats(out, at + 16, r.s0, r.s1, r.s2, r.s3);
     put_word(out, at + 32, r.key);
-    put_tail(out, at + 36, r.octave, r.index, r.polarity, r.spare);
+    put_bytes(out, at + 36, r.octave, r.index, r.polarity, r.spare);
 }
 
 // The record at place n, where the buffer has room for it whole.

@@ -5,7 +5,7 @@ ghost use Rattle.size.specs.Correct.{correctOf};
 use tables::Refusal;
 use tables::Set;
 
-mod anchor;
+pub mod anchor;
 mod four;
 mod profile;
 

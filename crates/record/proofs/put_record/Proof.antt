@@ -19,11 +19,11 @@ add-put-word c = search needs
 put-word-requires : tie.Need-put-word-requires
 put-word-requires c κs = search needs
 
-add-put-tail : tie.Need-add-put-tail
-add-put-tail c = search needs
+add-put-bytes : tie.Need-add-put-bytes
+add-put-bytes c = search needs
 
-put-tail-requires : tie.Need-put-tail-requires
-put-tail-requires c κs = search needs
+put-bytes-requires : tie.Need-put-bytes-requires
+put-bytes-requires c κs = search needs
 
 same-length : tie.Need-same-length
 same-length c = search needs
@@ -33,7 +33,7 @@ returns c =
     let word = c .before .before .before .before .before .before in
     let samples = word .before .before .before .before in
     let place = samples .before .before .before .before in
-    recordBytes-parts _ (place .before .before .before .args .at) (place .before .before .before .args .r) (place .put-floats .ensures) (samples .put-floats2 .ensures) (word .put-word .ensures) (c .before .before .put-tail .ensures)
+    recordBytes-parts _ (place .before .before .before .args .at) (place .before .before .before .args .r) (place .put-floats .ensures) (samples .put-floats2 .ensures) (word .put-word .ensures) (c .before .before .put-bytes .ensures)
 
 pub put-record-spec : {M : Type 1} → statement M
 put-record-spec =
@@ -44,7 +44,7 @@ put-record-spec =
     put-floats-requires-2
     add-put-word
     put-word-requires
-    add-put-tail
-    put-tail-requires
+    add-put-bytes
+    put-bytes-requires
     same-length
     returns)

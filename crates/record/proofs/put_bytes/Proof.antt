@@ -1,10 +1,10 @@
--- `record::put_tail` meets its contract. Assumes nothing.
+-- `record::put_bytes` meets its contract. Assumes nothing.
 use borrow.Author.Needs.{needs}
 use native.Mathlib.Omega.{arith}
 use lib.ListN.{length-set}
 use Rattle.record.proofs.Stores.{four-stores}
-use Rattle.record.proofs.put_tail.Statement.{statement}
-use Rattle.record.proofs.put_tail.Tie as tie
+use Rattle.record.proofs.put_bytes.Statement.{statement}
+use Rattle.record.proofs.put_bytes.Tie as tie
 
 slice-write-out : tie.Need-slice-write-out
 slice-write-out c = search needs
@@ -33,8 +33,8 @@ same-length c = search needs
 returns : tie.Need-returns
 returns c = rw four-stores
 
-pub put-tail-spec : {M : Type 1} → statement M
-put-tail-spec =
+pub put-bytes-spec : {M : Type 1} → statement M
+put-bytes-spec =
     tie.close
     (tie.spec
     slice-write-out
