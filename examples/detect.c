@@ -1,4 +1,4 @@
-/* Detection from C: map M of document 01, nine rows by ten cols, which holds one spot. `./test` builds and runs it. */
+/* Detection and sizing from C: map M of document 01, nine rows by ten cols, which holds one spot. `./test` builds and runs it. */
 #include <inttypes.h>
 #include <stdint.h>
 #include <stdio.h>
@@ -35,9 +35,9 @@ static void set_t(uint8_t set[URAMSHEG_SET_BYTES]) {
 }
 
 int main(void) {
-    uint8_t set[URAMSHEG_SET_BYTES], out[URAMSHEG_SPOT_BYTES * 4];
+    uint8_t set[URAMSHEG_SET_BYTES], out[URAMSHEG_SPOT_BYTES * 4], sized[URAMSHEG_SIZED_BYTES * 4];
     float level[4][ROWS * COLS] = {{0}};
-    uint64_t found = 0;
+    uint64_t found = 0, value = 0;
 
     set_t(set);
     level[0][4 * ROWS + 4] = 0.25f;
@@ -45,17 +45,28 @@ int main(void) {
     uint32_t refused = uramsheg_detect(set, sizeof set, 1, 1, 10, 1.9027314f, 4.1498866f, ROWS, COLS, 0,
                                        level[0], ROWS * COLS, level[1], ROWS * COLS, level[2], ROWS * COLS, level[3], ROWS * COLS,
                                        out, sizeof out, &found);
-    if (refused != URAMSHEG_DONE) {
-        printf("refused %" PRIu32 "\n", refused);
+    if (refused != URAMSHEG_DONE || found > 4) {
+        printf("refused %" PRIu32 ", found %" PRIu64 "\n", refused, found);
         return 1;
     }
     for (uint64_t i = 0; i < found; i++) {
         const uint8_t *spot = out + URAMSHEG_SPOT_BYTES * i;
-        uint32_t key;
-        memcpy(&key, spot + 32, 4);
-        printf("spot at x %g, y %g (row %u, col %u): a %s of size %g, peak %g\n", get(spot, 0), get(spot, 1), key / COLS, key % COLS,
-               spot[38] ? "maximum" : "minimum", get(spot, 2), get(spot, 3));
+        printf("spot at x %g, y %g: a %s of sigma %g, peak %g\n", get(spot, 0), get(spot, 1), spot[38] ? "maximum" : "minimum", get(spot, 2), get(spot, 3));
     }
     printf("found %" PRIu64 "\n", found);
+
+    refused = uramsheg_join(set, sizeof set, ROWS, COLS, out, URAMSHEG_SPOT_BYTES * found, sized, sizeof sized, &value);
+    if (refused != URAMSHEG_DONE) {
+        printf("the join refused %" PRIu32 ", record %" PRIu64 "\n", refused, value);
+        return 1;
+    }
+    for (uint64_t i = 0; i < value; i++) {
+        const uint8_t *spot = sized + URAMSHEG_SIZED_BYTES * i;
+        unsigned row = spot[44] + 256u * spot[45], col = spot[46] + 256u * spot[47];
+        if (spot[48])
+            printf("spot %" PRIu64 " of pixel (%u, %u): size %g\n", i, row, col, get(spot, 10));
+        else
+            printf("spot %" PRIu64 " of pixel (%u, %u): no size\n", i, row, col);
+    }
     return 0;
 }

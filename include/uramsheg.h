@@ -1,4 +1,4 @@
-/* Uramsheg's detector: lists the spots of a gas map from its four blurred levels. Proved in Rattle; see docs/PROMISES.md.
+/* Uramsheg's detector: lists the spots of a gas map from its four blurred levels, and gives each its size. Proved in Rattle; see docs/PROMISES.md.
  *
  * Link with libalp_c.a (`rt staticlib alp_c` writes target/staticlib/libalp_c.a); it needs nothing else.
  * Every call ends, whatever it is given. A slice is a pointer and its length in elements; a pointer must be valid for that length, and what is written to
@@ -14,10 +14,21 @@
  * A spot record (40 bytes, little-endian):
  *   0 x, 4 y, 8 sigma, 12 peak, 16 20 24 28 the four centre samples (f32 each); 32 order key u32 (row * cols + col of the spot's own pixel);
  *   36 octave, 37 scale index (1 or 2), 38 polarity (1 maximum, 0 minimum), 39 zero
+ * A record is bad unless its floats are finite, x is 0 to cols-1, y 0 to rows-1, the key under rows*cols, octave to 5, index 1 or 2, polarity 0 or 1,
+ * and the last byte 0. Detection writes no bad record.
+ *
+ * A sized record (52 bytes, little-endian): the spot record; 40 corrected sigma f32 (+0.0 where the spot has no size); 44 home row u16, 46 home col u16
+ * (the spot's own pixel); 48 accepted (1 where there is a size, else 0); 49 50 51 zero
+ *
+ * A worked case, map M: under the set that examples/detect.c builds, 9 rows by 10 cols, all 0 but pixel (4,4), 0.25 in level 0 and -0.25 in level 1,
+ * thresholds 1, 1, 10, window 1.9027314 to 4.1498866, octave 0, the list is the one record
+ *   00009040000080400000004000008040000080bf0000804000000000000000002c00000000010100
+ * examples/detect.c prints it with its size.
  */
 #ifndef URAMSHEG_H
 #define URAMSHEG_H
 
+#include <stdbool.h>
 #include <stddef.h>
 #include <stdint.h>
 
@@ -25,15 +36,18 @@
 extern "C" {
 #endif
 
-enum { URAMSHEG_SET_BYTES = 528, URAMSHEG_SPOT_BYTES = 40 };
+enum { URAMSHEG_SET_BYTES = 528, URAMSHEG_SPOT_BYTES = 40, URAMSHEG_SIZED_BYTES = 52 };
 
 /* What a call answers: 0, or why it was refused. Where several apply, the first in this order is given. */
 enum {
     URAMSHEG_DONE = 0,
-    URAMSHEG_REFUSED_SIZE = 1,   /* rows or cols above 4096: cut the map into tiles */
-    URAMSHEG_REFUSED_LEVEL = 2,  /* a level is not rows * cols long */
-    URAMSHEG_REFUSED_OCTAVE = 3, /* octave above 5 */
-    URAMSHEG_REFUSED_SET = 4     /* the set record is not 528 bytes long or not good */
+    URAMSHEG_REFUSED_SIZE = 1,    /* rows or cols above 4096: cut the map into tiles */
+    URAMSHEG_REFUSED_LEVEL = 2,   /* a level is not rows * cols long */
+    URAMSHEG_REFUSED_OCTAVE = 3,  /* octave above 5 */
+    URAMSHEG_REFUSED_SET = 4,     /* the set record is not 528 bytes long or not good */
+    URAMSHEG_REFUSED_RECORDS = 5, /* the list is no whole number of records, or holds a bad one: *value is its index */
+    URAMSHEG_REFUSED_ROOM = 6,    /* the output is shorter than needed */
+    URAMSHEG_REFUSED_NO_SIZE = 7  /* the spot has no size */
 };
 
 /* Lists the spots of four levels in `out`, by rising order key, at one key the minimum before the maximum.
@@ -46,6 +60,28 @@ uint32_t uramsheg_detect(const uint8_t *set, size_t set_length,
                          const float *level0, size_t level0_length, const float *level1, size_t level1_length,
                          const float *level2, size_t level2_length, const float *level3, size_t level3_length,
                          uint8_t *out, size_t out_length, uint64_t *value);
+
+/* Sizes the records of a list that was found on a map of rows by cols: a sized record for each, in the list's order, in `out`.
+ * A size comes from the four samples, the sigma and the polarity in the spot's own record, and from nothing else.
+ * Answers 0 and the number of records in *value; bytes of `out` past the sized records are kept.
+ * Refused (1, 4, 5, 6), it answers the number and leaves `out` untouched; *value is 0, but for 5: then it is the index of the first bad record, or the
+ * number of whole records where the list's length is no multiple of 40. The records of uramsheg_detect for the same rows and cols are never refused. */
+uint32_t uramsheg_join(const uint8_t *set, size_t set_length, size_t rows, size_t cols,
+                       const uint8_t *list, size_t list_length, uint8_t *out, size_t out_length, uint64_t *value);
+
+/* The corrected sigma of a spot with these centre samples, this sigma and this polarity, in *corrected.
+ * Refused (4; 7 where the spot has no size), it leaves *corrected untouched. */
+uint32_t uramsheg_correct(const uint8_t *set, size_t set_length, float sample0, float sample1, float sample2, float sample3,
+                          float sigma, bool is_max, float *corrected);
+
+/* How many octaves a map of these sides has, by its shortest side: under 10 none; to 64, 1; to 128, 2; to 256, 3; to 512, 4; to 1024, 5; above, 6. */
+uint32_t uramsheg_octave_count(size_t rows, size_t cols);
+
+/* Every second pixel of every second column of a level: (r, c) of `out` is (2r, 2c) of `level`. The new sides, half the old rounded down, or 0 by 0
+ * where a side is under 2, go to *half_rows and *half_cols; floats of `out` past the result are kept.
+ * Refused (1, 2, 6), it leaves all three untouched. */
+uint32_t uramsheg_downsample(size_t rows, size_t cols, const float *level, size_t level_length, float *out, size_t out_length,
+                             uint64_t *half_rows, uint64_t *half_cols);
 
 /* Whether a set record is good: 0, or 4. */
 uint32_t uramsheg_set_check(const uint8_t *set, size_t set_length);

@@ -1,31 +1,8 @@
-//! Times detection on maps of blobs and noise: ours, the Rust's reference and its streaming pass, one thread, in one run. `bench [SIDE]`.
-use judge::{Thresholds, fixed};
-
-unsafe extern "C" {
-    fn uramsheg_detect(
-        set: *const u8,
-        set_length: usize,
-        peak: f32,
-        sigma: f32,
-        ratio: f32,
-        low: f32,
-        high: f32,
-        rows: usize,
-        cols: usize,
-        octave: usize,
-        l0: *const f32,
-        l0_length: usize,
-        l1: *const f32,
-        l1_length: usize,
-        l2: *const f32,
-        l2_length: usize,
-        l3: *const f32,
-        l3_length: usize,
-        out: *mut u8,
-        out_length: usize,
-        value: *mut u64,
-    ) -> u32;
-}
+//! Times detection on maps of blobs and noise: ours, the Rust's reference and its streaming pass; then the sizing of the spots found: our join, and the
+//! Rust's correction. One thread, in one run. `bench [SIDE]`.
+use judge::{Logs, fixed};
+use std::time::Instant;
+use uramsheg::{Map, SPOT_BYTES, SIZED_BYTES, Spot, Thresholds};
 
 /// The set of half-octave sigmas, one of those that stand as real constants in the judge.
 const SET: usize = 1;
@@ -66,27 +43,52 @@ fn levels(side: usize, sigmas: [f32; 4]) -> [Vec<f32>; 4] {
     })
 }
 
-fn time_ours(set: &[u8; 528], th: Thresholds, side: usize, levels: [&[f32]; 4], out: &mut [u8]) -> (f64, usize) {
-    let mut value = 0u64;
-    let began = std::time::Instant::now();
-    let [l0, l1, l2, l3] = levels;
-    // SAFETY: every pointer comes with its own slice's length, and out overlaps none.
-    let number = unsafe {
-        uramsheg_detect(
-            set.as_ptr(), set.len(), th.peak, th.sigma, th.ratio, th.low, th.high, side, side, 0,
-            l0.as_ptr(), l0.len(), l1.as_ptr(), l1.len(), l2.as_ptr(), l2.len(), l3.as_ptr(), l3.len(),
-            out.as_mut_ptr(), out.len(), &mut value,
-        )
-    };
-    assert_eq!(number, 0, "detection refused the benchmark's map");
-    (began.elapsed().as_secs_f64(), value as usize)
+fn time_ours(set: &[u8; 528], th: Thresholds, map: Map<'_>, out: &mut [u8]) -> (f64, usize) {
+    let began = Instant::now();
+    let found = uramsheg::detect(set, th, map, out).expect("detection refused the benchmark's map");
+    (began.elapsed().as_secs_f64(), found)
 }
 
-/// The least time of several runs in ns a pixel, and the spots.
-fn least(side: usize, mut run: impl FnMut() -> (f64, usize)) -> (f64, usize) {
+/// How many sizes a second our join gives and the Rust's correction gives for the spots of a list; both must size the same number of spots.
+fn time_sizes(set: &[u8; 528], side: usize, list: &[u8]) {
+    let spots: Vec<Spot> = list.as_chunks().0.iter().map(Spot::from_record).collect();
+    let mut sized = vec![0u8; spots.len() * SIZED_BYTES];
+    let (ours, accepted) = fastest(|| {
+        let began = Instant::now();
+        uramsheg::join(set, side, side, list, &mut sized).expect("the join refused detection's list");
+        let seconds = began.elapsed().as_secs_f64();
+        (seconds, sized.chunks(SIZED_BYTES).filter(|record| record[48] == 1).count())
+    });
+    let mut time_rust = |logs| {
+        fastest(|| {
+            let began = Instant::now();
+            let given = spots.iter().filter(|s| fixed::correct(logs, SET, s.samples, s.sigma, s.is_max).is_ok()).count();
+            (began.elapsed().as_secs_f64(), given)
+        })
+    };
+    let (steps, expected) = time_rust(Logs::Steps);
+    let (rust, _) = time_rust(Logs::Rust);
+    assert_eq!(accepted, expected, "sizes given by the join and by the Rust's correction with the same log2 and exp");
+    let millions = |seconds: f64| spots.len() as f64 / seconds / 1e6;
+    println!("| spots | sized | our join, millions a second | Rust's correction, its own log2 and exp | ratio | Rust's correction, our log2 and exp in Rust | ratio |");
+    println!("|---|---|---|---|---|---|---|");
+    println!(
+        "| {} | {accepted} | {:.2} | {:.2} | {:.2} | {:.2} | {:.2} |",
+        spots.len(), millions(ours), millions(rust), ours / rust, millions(steps), ours / steps
+    );
+}
+
+/// The least seconds of several runs, and what the first gave.
+fn fastest(mut run: impl FnMut() -> (f64, usize)) -> (f64, usize) {
     let results: Vec<(f64, usize)> = (0..RUNS).map(|_| run()).collect();
     let seconds = results.iter().map(|r| r.0).fold(f64::INFINITY, f64::min);
-    (seconds * 1e9 / (side * side) as f64, results[0].1)
+    (seconds, results[0].1)
+}
+
+/// The least time in ns a pixel, and the spots.
+fn least(side: usize, run: impl FnMut() -> (f64, usize)) -> (f64, usize) {
+    let (seconds, spots) = fastest(run);
+    (seconds * 1e9 / (side * side) as f64, spots)
 }
 
 fn main() {
@@ -95,18 +97,30 @@ fn main() {
     let record = set.to_record();
     let owned = levels(side, set.sigmas);
     let levels = [&owned[0][..], &owned[1], &owned[2], &owned[3]];
-    let mut out = vec![0u8; 40 * 200_000];
+    let map = Map { rows: side, cols: side, octave: 0, levels };
+    let mut out = vec![0u8; SPOT_BYTES * 400_000];
+    let mut theirs = out.clone();
     println!("| map | spots | ours, ns a pixel | Rust's reference | ratio | Rust's streaming pass | ratio |");
     println!("|---|---|---|---|---|---|---|");
-    for peak in [0.0, 0.01, 0.1, 1.0] {
-        let th = Thresholds { peak, sigma: 0.0, ratio: 12.1, low: 1.9027314, high: 4.1498866 };
-        let (ours, found) = least(side, || time_ours(&record, th, side, levels, &mut out));
+    for peak in [1.0, 0.1, 0.01, 0.0] {
+        let (sigma, ratio, low, high) = (0.0, 12.1, 1.9027314, 4.1498866);
+        let th = judge::Thresholds { peak, sigma, ratio, low, high };
+        let (ours, found) = least(side, || time_ours(&record, Thresholds { peak, sigma, ratio, low, high }, map, &mut out));
         let (reference, expected) = least(side, || fixed::time_reference(SET, th, side, side, 0, levels));
         let (stream, streamed) = least(side, || fixed::time_stream(SET, th, side, side, 0, levels));
         assert!(found == expected && found == streamed, "{found} spots, the reference {expected}, the stream {streamed}");
+        let list = &out[..SPOT_BYTES * found];
+        fixed::detect(SET, th, side, side, 0, levels, &mut theirs);
+        assert!(list == &theirs[..list.len()], "the list differs from the reference's");
+        fixed::detect_stream(SET, th, side, side, 0, levels, &mut theirs);
+        assert!(list == &theirs[..list.len()], "the list differs from the streaming pass's");
         println!(
             "| {side} by {side}, peak {peak} | {found} | {ours:.1} | {reference:.1} | {:.2} | {stream:.1} | {:.2} |",
             ours / reference, ours / stream
         );
+        if peak == 0.0 {
+            println!();
+            time_sizes(&record, side, list);
+        }
     }
 }

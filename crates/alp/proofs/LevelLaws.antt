@@ -17,13 +17,13 @@ left-place : (rows row col : ℕ) → 1 ≤ col → (col - 1) * rows + row ≡ c
 left-place rows row zero h = absurd (not-suc-le-zero h)
 left-place rows row (suc c) h = let e : suc c - 1 ≡ c = omega arith in rw e (omega (arith, suc-mul c rows))
 
-right-place : (rows row col : ℕ) → (col + 1) * rows + row ≡ col * rows + row + rows
+pub right-place : (rows row col : ℕ) → (col + 1) * rows + row ≡ col * rows + row + rows
 right-place rows row col = omega (arith, add-mul col 1 rows)
 
 up-place : (rows row col : ℕ) → 1 ≤ row → col * rows + (row - 1) ≡ col * rows + row - 1
 up-place rows row col h = omega arith
 
-down-place : (rows row col : ℕ) → col * rows + (row + 1) ≡ col * rows + row + 1
+pub down-place : (rows row col : ℕ) → col * rows + (row + 1) ≡ col * rows + row + 1
 down-place rows row col = omega arith
 
 -- they lie a column and a pixel to both sides of the centre

@@ -1,5 +1,7 @@
 -- What the proofs cite, and what detection's promise settles.
 pub mod LevelLaws
+pub mod ViewLaws
+pub mod ViewRows
 pub mod DueLaws
 pub mod DetectLaws
 pub mod RefusalsLaws

@@ -1,14 +1,20 @@
 // The detector's public face.
 mod level; // level.rt: the levels' samples
 mod candidates; // candidates.rt: the loops over the pixels, and the refusals
+pub mod view; // view.rt: a level as its pixels and its rows
 
 ghost use mathlib.Core.Path.{_≡_};
 ghost use Rattle.alp.specs.Detect.{outcome, detectOf};
+pub use join::join;
 use pixel::Frame;
+pub use pyramid::downsample;
+pub use pyramid::octave_count;
+pub use size::correct;
 use tables::Checked;
 use tables::Refusal;
 use tables::Set;
 use tables::Thresholds;
+pub use tables::read_set;
 
 // What detection answers: how many spots it found, or why it refused.
 pub enum Answer {

@@ -22,10 +22,22 @@ use Rattle.alp.specs.Refusals.{applies}
 use Rattle.alp.specs.declared.Answer.{Answer}
 use Rattle.alp.specs.declared.Answer.the-variants.{Found, Refused}
 use Rattle.alp.proofs.RefusalsLaws.{refused-applies, refused-first, found-none}
-use Rattle.alp_c.specs.Face.{packed, Left, left, leftBy, detectFace, checkFace}
+use Rattle.join.specs.Join as join
+use Rattle.join.specs.declared.Joined.{Joined}
+use Rattle.pyramid.specs.Pyramid as pyramid
+use Rattle.pyramid.specs.declared.Halved.{Halved}
+use Rattle.alp_c.specs.Face.{packed, Left, left, leftBy, detectFace, checkFace, joinPacked, joinLeft, joinFace, SizeLeft, correctFace, halvedNumber, rowsAfter, colsAfter, HalvedLeft, halvedLeft, downsampleFace}
 
 pub left-by : {a : Answer} {o : List ℕ} {r v : ℕ} {d : Outcome} → r ≡ packed a .number → v ≡ packed a .value → outcome a o ≡ d → left r v o ≡ leftBy d
 left-by p q e = rw (p, q) (ap leftBy e)
+
+pub join-left-by : {a : Joined} {o : List ℕ} {r v : ℕ} {d : join.Outcome} → r ≡ joinPacked a .number → v ≡ joinPacked a .value → join.outcome a o ≡ d → left r v o ≡ joinLeft d
+join-left-by p q e = rw (p, q) (ap joinLeft e)
+
+pub halved-left-by : {a : Halved} {o : List Float} {r v w : ℕ} {d : pyramid.Outcome} (p q : ℕ) → r ≡ halvedNumber a → v ≡ rowsAfter a p → w ≡ colsAfter a q → pyramid.outcome a o ≡ d
+    → halvedLeft r v w o ≡ halvedLeft (halvedNumber (d .answer)) (rowsAfter (d .answer) p) (colsAfter (d .answer) q) (d .buffer)
+halved-left-by p q r-is v-is w-is e =
+    rw (r-is, v-is, w-is) (ap (λ (x : pyramid.Outcome). halvedLeft (halvedNumber (x .answer)) (rowsAfter (x .answer) p) (colsAfter (x .answer) q) (x .buffer)) e)
 
 -- ---- the set's record
 
@@ -63,6 +75,22 @@ bad-record-four b e = rw (bad-record-refused b e)
 
 pub set-check-only : (b : List ℕ) (r r' : ℕ) → r ≡ checkFace (readSetOf b .answer) → r' ≡ checkFace (readSetOf b .answer) → r ≡ r'
 set-check-only b r r' p q = p ∙ sym q
+
+-- ---- one answer for each call
+
+-- two answers that the join's promise allows are equal, with their values and buffers
+pub join-face-only : (b : List ℕ) (rows cols : ℕ) (list out : List ℕ) (x y : Left) → x ≡ joinFace b rows cols list out → y ≡ joinFace b rows cols list out → x ≡ y
+join-face-only b rows cols list out x y p q = p ∙ sym q
+
+-- those of the correction, with the lent float
+pub correct-face-only : (b : List ℕ) (l : List Float) (sigma : Float) (isMax : Bool) (before : Float) (x y : SizeLeft) → x ≡ correctFace b l sigma isMax before
+    → y ≡ correctFace b l sigma isMax before → x ≡ y
+correct-face-only b l sigma isMax before x y p q = p ∙ sym q
+
+-- those of downsample, with the lent sides and the buffer
+pub downsample-face-only : (rows cols : ℕ) (level out : List Float) (halfrows halfcols : ℕ) (x y : HalvedLeft) → x ≡ downsampleFace rows cols level out halfrows halfcols
+    → y ≡ downsampleFace rows cols level out halfrows halfcols → x ≡ y
+downsample-face-only rows cols level out halfrows halfcols x y p q = p ∙ sym q
 
 -- ---- detection
 

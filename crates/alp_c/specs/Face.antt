@@ -1,11 +1,21 @@
 -- What the C face answers, and what it leaves in the buffer, as one value of its input. Definitions only.
 use Prim.Native.Nat.{ℕ}
+use mathlib.Core.Bool.{Bool}
 use mathlib.Core.List.{List}
 use lib.Ieee.{Float}
 use Rattle.tables.specs.declared.Thresholds.{Thresholds}
 use Rattle.tables.specs.declared.Checked.{Checked}
 use Rattle.tables.specs.declared.Checked.the-variants.{Fine, Bad}
 use Rattle.tables.specs.Refusal.{number, index, readSetOf}
+use Rattle.size.specs.Correct.{correctOf}
+use Rattle.size.specs.declared.Correction.{Correction}
+use Rattle.size.specs.declared.Correction.the-variants as size
+use Rattle.join.specs.Join as join
+use Rattle.join.specs.declared.Joined.{Joined}
+use Rattle.join.specs.declared.Joined.the-variants as joined
+use Rattle.pyramid.specs.Pyramid as pyramid
+use Rattle.pyramid.specs.declared.Halved.{Halved}
+use Rattle.pyramid.specs.declared.Halved.the-variants as halved
 use Rattle.alp.specs.Detect.{Outcome, detectOf}
 use Rattle.alp.specs.declared.Answer.{Answer}
 use Rattle.alp.specs.declared.Answer.the-variants.{Found, Refused}
@@ -46,3 +56,79 @@ detectFace set th rows cols octave l0 l1 l2 l3 out = leftBy (detectOf (readSetOf
 unfoldable pub checkFace : Checked → ℕ
 checkFace Fine = 0
 checkFace (Bad w) = number w
+
+-- ---- the correction
+
+-- 0, or the refusal's number
+unfoldable pub sizeNumber : Correction → ℕ
+sizeNumber (size.Size sigma) = 0
+sizeNumber (size.Refused w) = number w
+
+-- the corrected sigma; a refusal leaves what was there before
+unfoldable pub sizeAfter : Correction → Float → Float
+sizeAfter (size.Size sigma) before = sigma
+sizeAfter (size.Refused w) before = before
+
+-- what a call of the correction leaves: its number, and the lent float
+pub record SizeLeft : Type 0 where
+  pub number : ℕ
+  pub corrected : Float
+
+-- these two, given one by one
+abbrev pub sizeLeft : ℕ → Float → SizeLeft
+sizeLeft n x = record { number = n; corrected = x }
+
+-- the correction under the set that the record holds
+unfoldable pub correctFace : List ℕ → List Float → Float → Bool → Float → SizeLeft
+correctFace set samples sigma isMax before =
+    let answer = correctOf (readSetOf set .set) samples sigma isMax in
+    sizeLeft (sizeNumber answer) (sizeAfter answer before)
+
+-- ---- the join
+
+-- 0 and the count, or the refusal's number and the index that goes with it
+unfoldable pub joinPacked : Joined → Packed
+joinPacked (joined.Count n) = record { number = 0; value = n }
+joinPacked (joined.Refused w) = record { number = number w; value = index w }
+
+-- what an outcome of the join leaves
+abbrev pub joinLeft : join.Outcome → Left
+joinLeft o = left (joinPacked (o .answer) .number) (joinPacked (o .answer) .value) (o .buffer)
+
+-- the join under the set that the record holds
+unfoldable pub joinFace : List ℕ → ℕ → ℕ → List ℕ → List ℕ → Left
+joinFace set rows cols list out = joinLeft (join.joinOf (readSetOf set .set) rows cols list out)
+
+-- ---- the pyramid's helpers
+
+-- 0, or the refusal's number
+unfoldable pub halvedNumber : Halved → ℕ
+halvedNumber (halved.Sides rows cols) = 0
+halvedNumber (halved.Refused w) = number w
+
+-- the new rows; a refusal leaves what was there before
+unfoldable pub rowsAfter : Halved → ℕ → ℕ
+rowsAfter (halved.Sides rows cols) before = rows
+rowsAfter (halved.Refused w) before = before
+
+-- the new cols; a refusal leaves what was there before
+unfoldable pub colsAfter : Halved → ℕ → ℕ
+colsAfter (halved.Sides rows cols) before = cols
+colsAfter (halved.Refused w) before = before
+
+-- what a call of downsample leaves: its number, the two lent sides, and the whole buffer
+pub record HalvedLeft : Type 0 where
+  pub number : ℕ
+  pub rows : ℕ
+  pub cols : ℕ
+  pub buffer : List Float
+
+-- these four, given one by one
+abbrev pub halvedLeft : ℕ → ℕ → ℕ → List Float → HalvedLeft
+halvedLeft n rows cols b = record { number = n; rows = rows; cols = cols; buffer = b }
+
+-- a level halved
+unfoldable pub downsampleFace : ℕ → ℕ → List Float → List Float → ℕ → ℕ → HalvedLeft
+downsampleFace rows cols level out halfrows halfcols =
+    let after = pyramid.downsampleOf rows cols level out in
+    halvedLeft (halvedNumber (after .answer)) (rowsAfter (after .answer) halfrows) (colsAfter (after .answer) halfcols) (after .buffer)

@@ -1,4 +1,8 @@
-// The C face of detection: thin, each answer as a number and a value.
+// The C face of the detector: thin, each answer as a number and a value.
+mod correction; // correction.rt: the correction
+mod octaves; // octaves.rt: the octave count, and a level halved
+mod sized; // sized.rt: the join
+
 ghost use mathlib.Core.Path.{_≡_};
 ghost use Rattle.tables.specs.Refusal.{readSetOf};
 ghost use Rattle.alp_c.specs.Face.{packed, left, thresholdsOf, detectFace, checkFace};

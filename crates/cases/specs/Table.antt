@@ -1,5 +1,4 @@
--- Document 01's worked cases in a single table: what the definitions give beside what document 01 says. P7, the octave count, is not here: it joins
--- the table with the part that counts octaves. Definitions only.
+-- Document 01's worked cases in a single table: what the definitions give beside what document 01 says. Definitions only.
 use Prim.Native.Nat.{ℕ, _+_, _*_}
 use mathlib.Core.List.{List, [], _∷_, _++_, map}
 use lib.ListN.{replicate, set}
@@ -10,6 +9,7 @@ use Rattle.tables.specs.SetT.{setT}
 use Rattle.record.specs.Layout.{bytesOf}
 use Rattle.fit.specs.Cases as fits
 use Rattle.size.specs.Cases as sizes
+use Rattle.pyramid.specs.Pyramid.{octaveCountOf}
 use Rattle.alp.specs.Level.{Maps, mapsOf}
 use Rattle.alp.specs.Due as dues
 
@@ -69,7 +69,7 @@ mapCase l0 bytes = record { given = bytesOf (dues.due (mapM l0)); due = bytes }
 
 -- ---- the table
 
--- the worked cases in document 01's order, and after P12 the other cases of the correction
+-- the worked cases in document 01's order but for P8, which comes before P7, and after P12 the other cases of the correction
 unfoldable pub table : List Case
 table =
     -- P1 root 2.25 is 1.5.
@@ -81,6 +81,11 @@ table =
     -- P6 of (1,0,-3,0) on 0.5 to 2: maximum 2, minimum -2.
     -- P8 under T the samples (-1,4,0,0) have the envelope min -1, max 4, sigmas 0 and 2.
     ++ map ofFit fits.cases
+    -- P7 octave count 9: 0; 10: 1; 64: 1; 65: 2; 1,025: 6.
+    ++ (record {
+      given = octaveCountOf 9 9 ∷ octaveCountOf 10 10 ∷ octaveCountOf 64 64 ∷ octaveCountOf 65 65 ∷ octaveCountOf 1025 1025 ∷ [];
+      due = 0 ∷ 1 ∷ 1 ∷ 2 ∷ 6 ∷ [];
+    } ∷ [])
     -- P9 map M: one spot, with these 40 bytes.
     ++ (mapCase levelM bytesM
     -- P10 with (2,4) of level 0 NaN: none.

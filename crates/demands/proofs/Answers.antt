@@ -16,7 +16,7 @@ use Rattle.demands.specs.TwoMaps.{spared, Lossy, Struck, lists}
 use Rattle.demands.proofs.TwoMaps.{two-maps}
 
 -- a call that is not refused lists what is due
-answered : (c : Checked) (m : Maps) (out : List ℕ) (n : ℕ) → detected c m out .answer ≡ Found n → detected c m out ≡ lists (due m) out
+pub answered : (c : Checked) (m : Maps) (out : List ℕ) (n : ℕ) → detected c m out .answer ≡ Found n → detected c m out ≡ lists (due m) out
 unfolding detected
 answered Fine m out n h = refl
 answered (Bad why) m out n h = cc

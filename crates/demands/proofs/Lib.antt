@@ -1,4 +1,4 @@
--- The theorems on detection's list: Listed, Accepted, NotFinite, Samples, Clear, TwoMaps and Answers; the other modules serve them.
+-- The theorems on detection's list: Listed, Accepted, Held, NotFinite, Samples, Clear, TwoMaps, Answers and Joined; the other modules serve them.
 pub mod Tests
 pub mod NotFinite
 pub mod Ring
@@ -7,6 +7,8 @@ pub mod Judge
 pub mod Places
 pub mod Listed
 pub mod Accepted
+pub mod Held
 pub mod Clear
 pub mod TwoMaps
 pub mod Answers
+pub mod Joined

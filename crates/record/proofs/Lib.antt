@@ -1,4 +1,5 @@
 pub mod Stores
 pub mod LayoutLaws
 pub mod RoundTrip
+pub mod Converse
 pub mod ReadableLaws

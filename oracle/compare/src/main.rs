@@ -1,5 +1,7 @@
 //! The driver: runs cases and compares a subject with the judge byte for byte.
 
+#[cfg(feature = "archive")]
+mod archived;
 mod judged;
 mod own;
 mod plan;
@@ -45,11 +47,7 @@ fn main() -> ExitCode {
             run(number(1, SEED), number(2, 1) as usize, &mut program)
         }
         #[cfg(feature = "archive")]
-        Some("archive") => run(
-            number(1, SEED),
-            number(2, 1) as usize,
-            &mut subject::archive::Archive,
-        ),
+        Some("archive") => archive(number(1, SEED), number(2, 1) as usize),
         #[cfg(feature = "probe")]
         Some("probe") if words.len() > 2 => probed::run(number(1, SEED), number(2, 1) as usize),
         Some("one") if words.len() > 3 => one(&words[1..]),
@@ -149,6 +147,14 @@ fn run(seed: u64, times: usize, subject: &mut dyn Subject) -> bool {
         }
     }
     all_sound
+}
+
+/// The archive against the judge: the families, the octave count at every side, and corrections by the million.
+#[cfg(feature = "archive")]
+fn archive(seed: u64, times: usize) -> bool {
+    run(seed, times, &mut subject::archive::Archive)
+        & archived::octaves()
+        & archived::corrections(seed, 2_000_000 * times)
 }
 
 /// One case alone: the judge's answer, and a program's beside it.

@@ -1,41 +1,22 @@
-//! The detector as its archive exports it to C.
+//! The detector as its archive exports it, through the Rust wrapper.
 
 use crate::{Reply, Subject};
-use cases::Scene;
-
-/// A slice is passed as its start and its length.
-mod raw {
-    unsafe extern "C" {
-        #[allow(clippy::too_many_arguments)]
-        pub fn uramsheg_detect(
-            set: *const u8,
-            set_length: usize,
-            peak: f32,
-            sigma: f32,
-            ratio: f32,
-            low: f32,
-            high: f32,
-            rows: usize,
-            cols: usize,
-            octave: usize,
-            l0: *const f32,
-            l0_length: usize,
-            l1: *const f32,
-            l1_length: usize,
-            l2: *const f32,
-            l2_length: usize,
-            l3: *const f32,
-            l3_length: usize,
-            out: *mut u8,
-            out_length: usize,
-            value: *mut u64,
-        ) -> u32;
-        pub fn uramsheg_set_check(set: *const u8, set_length: usize) -> u32;
-    }
-}
+use cases::{Scene, Set};
+use uramsheg::{Map, Refusal, Thresholds};
 
 /// libalp_c.a, linked in.
 pub struct Archive;
+
+fn reply(answer: Result<usize, Refusal>) -> Reply {
+    match answer {
+        Ok(count) => Reply::Done(count),
+        Err(Refusal::Records { index }) => Reply::Refused { number: 5, index },
+        Err(refusal) => Reply::Refused {
+            number: refusal.number(),
+            index: 0,
+        },
+    }
+}
 
 impl Subject for Archive {
     fn name(&self) -> String {
@@ -43,51 +24,64 @@ impl Subject for Archive {
     }
 
     fn detect(&mut self, scene: &Scene, out: &mut [u8]) -> Option<Reply> {
-        let set = scene.set.record();
         let [peak, sigma, ratio, low, high] = scene.thresholds;
-        let [l0, l1, l2, l3] = [0, 1, 2, 3].map(|level| scene.levels[level].as_slice());
-        let mut value = 0;
-        // SAFETY: each pointer goes with its own slice's length, and neither `out` nor `value` overlaps another.
-        let number = unsafe {
-            raw::uramsheg_detect(
-                set.as_ptr(),
-                set.len(),
-                peak,
-                sigma,
-                ratio,
-                low,
-                high,
-                scene.rows,
-                scene.cols,
-                scene.octave,
-                l0.as_ptr(),
-                l0.len(),
-                l1.as_ptr(),
-                l1.len(),
-                l2.as_ptr(),
-                l2.len(),
-                l3.as_ptr(),
-                l3.len(),
-                out.as_mut_ptr(),
-                out.len(),
-                &mut value,
-            )
+        let thresholds = Thresholds {
+            peak,
+            sigma,
+            ratio,
+            low,
+            high,
         };
-        let value = value as usize;
-        Some(match number {
-            0 => Reply::Done(value),
-            _ => Reply::Refused {
-                number,
-                index: value,
-            },
-        })
+        let map = Map {
+            rows: scene.rows,
+            cols: scene.cols,
+            octave: scene.octave,
+            levels: [0, 1, 2, 3].map(|level| scene.levels[level].as_slice()),
+        };
+        Some(reply(uramsheg::detect(
+            &scene.set.record(),
+            thresholds,
+            map,
+            out,
+        )))
+    }
+
+    fn join(
+        &mut self,
+        set: &Set,
+        rows: usize,
+        cols: usize,
+        list: &[u8],
+        out: &mut [u8],
+    ) -> Option<Reply> {
+        Some(reply(uramsheg::join(&set.record(), rows, cols, list, out)))
+    }
+
+    fn correct(
+        &mut self,
+        set: &Set,
+        samples: [f32; 4],
+        sigma: f32,
+        is_max: bool,
+    ) -> Option<Result<f32, u32>> {
+        Some(uramsheg::correct(&set.record(), samples, sigma, is_max).map_err(Refusal::number))
+    }
+
+    fn octave_count(&mut self, rows: usize, cols: usize) -> Option<usize> {
+        Some(uramsheg::octave_count(rows, cols) as usize)
+    }
+
+    fn downsample(
+        &mut self,
+        rows: usize,
+        cols: usize,
+        level: &[f32],
+        out: &mut [f32],
+    ) -> Option<Result<(usize, usize), u32>> {
+        Some(uramsheg::downsample(rows, cols, level, out).map_err(Refusal::number))
     }
 
     fn read_set(&mut self, bytes: &[u8]) -> Option<Result<(), u32>> {
-        // SAFETY: the pointer goes with the slice's own length.
-        match unsafe { raw::uramsheg_set_check(bytes.as_ptr(), bytes.len()) } {
-            0 => Some(Ok(())),
-            number => Some(Err(number)),
-        }
+        Some(uramsheg::check_set(bytes).map_err(Refusal::number))
     }
 }

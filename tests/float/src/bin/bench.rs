@@ -1,7 +1,7 @@
 //! How long a call of sqrt, log2 and exp takes, ours against the machine's and Rust's own, in one run.
 use std::hint::black_box;
 use std::time::Instant;
-use uramsheg_float_tests as ours;
+use uramsheg::float as ours;
 
 const VALUES: usize = 1 << 12;
 const ROUNDS: usize = 200;

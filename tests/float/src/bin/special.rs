@@ -1,5 +1,6 @@
 //! Calls each float helper from Rust at its special values, all pairs of them where it takes two.
-use uramsheg_float_tests as ours;
+use uramsheg::float as ours;
+use uramsheg_float_tests::same;
 
 /// Zeros, the ends of the subnormals and normals, ones, infinities and NaNs of both signs.
 fn special() -> Vec<f32> {
@@ -39,13 +40,13 @@ fn tell(name: &str, wrong: Option<String>) -> bool {
 }
 
 fn one(name: &str, ours: impl Fn(f32) -> f32, want: impl Fn(f32) -> f32) -> bool {
-    let wrong = special().into_iter().find(|&x| !ours::same(ours(x), want(x)));
+    let wrong = special().into_iter().find(|&x| !same(ours(x), want(x)));
     tell(name, wrong.map(|x| format!("at {:08x} got {:08x}, want {:08x}", x.to_bits(), ours(x).to_bits(), want(x).to_bits())))
 }
 
 fn two(name: &str, ours: impl Fn(f32, f32) -> f32, want: impl Fn(f32, f32) -> f32) -> bool {
     let pairs = special().into_iter().flat_map(|a| special().into_iter().map(move |b| (a, b)));
-    let wrong = pairs.into_iter().find(|&(a, b)| !ours::same(ours(a, b), want(a, b)));
+    let wrong = pairs.into_iter().find(|&(a, b)| !same(ours(a, b), want(a, b)));
     tell(name, wrong.map(|(a, b)| format!("at {:08x} {:08x} got {:08x}, want {:08x}", a.to_bits(), b.to_bits(), ours(a, b).to_bits(), want(a, b).to_bits())))
 }
 

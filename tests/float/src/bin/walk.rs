@@ -1,6 +1,7 @@
 //! Walks every f32 pattern: sqrt against the machine's own root, log2 and exp against an independent f64 and document 01's ranges.
 //! `walk N` takes only every N-th pattern. It prints the worst value of each function and where.
-use uramsheg_float_tests as ours;
+use uramsheg::float as ours;
+use uramsheg_float_tests::same;
 
 /// The largest error seen so far, in units of 2^-20, and the pattern it was seen at.
 #[derive(Clone, Copy, Default)]
@@ -80,7 +81,7 @@ fn look(pattern: u32, seen: &mut Seen) {
             seen.wrong[index] = Some(pattern);
         }
     };
-    claim(0, ours::same(ours::sqrt(x), x.sqrt()));
+    claim(0, same(ours::sqrt(x), x.sqrt()));
     let log2 = ours::log2(x);
     claim(1, log2_special(x, log2));
     if x > 0.0 && x.is_finite() {

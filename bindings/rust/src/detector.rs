@@ -1,0 +1,256 @@
+//! The detector's functions: those of the archive, and two that make room by themselves.
+
+use crate::{Refusal, SIZED_BYTES, SPOT_BYTES, SizedSpot, Spot};
+
+/// A slice is passed as its start and its length.
+mod raw {
+    unsafe extern "C" {
+        pub fn uramsheg_detect(
+            set: *const u8,
+            set_length: usize,
+            peak: f32,
+            sigma: f32,
+            ratio: f32,
+            low: f32,
+            high: f32,
+            rows: usize,
+            cols: usize,
+            octave: usize,
+            l0: *const f32,
+            l0_length: usize,
+            l1: *const f32,
+            l1_length: usize,
+            l2: *const f32,
+            l2_length: usize,
+            l3: *const f32,
+            l3_length: usize,
+            out: *mut u8,
+            out_length: usize,
+            value: *mut u64,
+        ) -> u32;
+        pub fn uramsheg_join(
+            set: *const u8,
+            set_length: usize,
+            rows: usize,
+            cols: usize,
+            list: *const u8,
+            list_length: usize,
+            out: *mut u8,
+            out_length: usize,
+            value: *mut u64,
+        ) -> u32;
+        pub fn uramsheg_correct(
+            set: *const u8,
+            set_length: usize,
+            s0: f32,
+            s1: f32,
+            s2: f32,
+            s3: f32,
+            sigma: f32,
+            is_max: bool,
+            corrected: *mut f32,
+        ) -> u32;
+        pub safe fn uramsheg_octave_count(rows: usize, cols: usize) -> u32;
+        pub fn uramsheg_downsample(
+            rows: usize,
+            cols: usize,
+            level: *const f32,
+            level_length: usize,
+            out: *mut f32,
+            out_length: usize,
+            half_rows: *mut u64,
+            half_cols: *mut u64,
+        ) -> u32;
+        pub fn uramsheg_set_check(set: *const u8, set_length: usize) -> u32;
+    }
+}
+
+/// What a spot must pass. Any float is allowed, NaN too.
+#[derive(Clone, Copy, Debug, PartialEq)]
+pub struct Thresholds {
+    pub peak: f32,
+    pub sigma: f32,
+    /// The largest ratio of curvatures.
+    pub ratio: f32,
+    /// The closed window of sigma.
+    pub low: f32,
+    pub high: f32,
+}
+
+/// Four blurred levels of one map: each rows * cols floats by columns, pixel (row, col) at col * rows + row.
+#[derive(Clone, Copy, Debug)]
+pub struct Map<'a> {
+    pub rows: usize,
+    pub cols: usize,
+    pub octave: usize,
+    pub levels: [&'a [f32]; 4],
+}
+
+/// An answer's number as a result.
+fn done<T>(number: u32, index: usize, answer: T) -> Result<T, Refusal> {
+    if number == 0 {
+        return Ok(answer);
+    }
+    let refusal = Refusal::from_number(number, index);
+    Err(refusal.expect("libalp_c.a and this crate are of different versions: build both from one"))
+}
+
+/// Lists the map's spots in `out`, 40 bytes each, by rising order key, at one key the minimum before the maximum. Answers the full number of spots;
+/// where `out` is too short for them it holds as many whole records as fit, first ones first. Later bytes are kept.
+pub fn detect(
+    set: &[u8],
+    thresholds: Thresholds,
+    map: Map<'_>,
+    out: &mut [u8],
+) -> Result<usize, Refusal> {
+    let [l0, l1, l2, l3] = map.levels;
+    let mut value = 0;
+    // SAFETY: each pointer goes with its own slice's length, and neither `out` nor `value` overlaps another.
+    let number = unsafe {
+        raw::uramsheg_detect(
+            set.as_ptr(),
+            set.len(),
+            thresholds.peak,
+            thresholds.sigma,
+            thresholds.ratio,
+            thresholds.low,
+            thresholds.high,
+            map.rows,
+            map.cols,
+            map.octave,
+            l0.as_ptr(),
+            l0.len(),
+            l1.as_ptr(),
+            l1.len(),
+            l2.as_ptr(),
+            l2.len(),
+            l3.as_ptr(),
+            l3.len(),
+            out.as_mut_ptr(),
+            out.len(),
+            &mut value,
+        )
+    };
+    done(number, value as usize, value as usize)
+}
+
+/// Sizes the records of a list found on a map of rows by cols, 52 bytes each, in the list's order. Answers their number. Later bytes are kept.
+pub fn join(
+    set: &[u8],
+    rows: usize,
+    cols: usize,
+    list: &[u8],
+    out: &mut [u8],
+) -> Result<usize, Refusal> {
+    let mut value = 0;
+    // SAFETY: each pointer goes with its own slice's length, and neither `out` nor `value` overlaps another.
+    let number = unsafe {
+        raw::uramsheg_join(
+            set.as_ptr(),
+            set.len(),
+            rows,
+            cols,
+            list.as_ptr(),
+            list.len(),
+            out.as_mut_ptr(),
+            out.len(),
+            &mut value,
+        )
+    };
+    done(number, value as usize, value as usize)
+}
+
+/// The corrected sigma of a spot with these centre samples, this sigma and this polarity.
+pub fn correct(set: &[u8], samples: [f32; 4], sigma: f32, is_max: bool) -> Result<f32, Refusal> {
+    let [s0, s1, s2, s3] = samples;
+    let mut corrected = 0.0;
+    // SAFETY: the pointer goes with the slice's own length, and `corrected` overlaps nothing.
+    let number = unsafe {
+        raw::uramsheg_correct(
+            set.as_ptr(),
+            set.len(),
+            s0,
+            s1,
+            s2,
+            s3,
+            sigma,
+            is_max,
+            &mut corrected,
+        )
+    };
+    done(number, 0, corrected)
+}
+
+/// How many octaves a map of these sides has, 0 to 6.
+pub fn octave_count(rows: usize, cols: usize) -> u32 {
+    raw::uramsheg_octave_count(rows, cols)
+}
+
+/// Every second pixel of every second column of a level. Answers the new rows and cols, each half the old rounded down. Later floats are kept.
+pub fn downsample(
+    rows: usize,
+    cols: usize,
+    level: &[f32],
+    out: &mut [f32],
+) -> Result<(usize, usize), Refusal> {
+    let (mut half_rows, mut half_cols) = (0, 0);
+    // SAFETY: each pointer goes with its own slice's length, and what is written overlaps nothing.
+    let number = unsafe {
+        raw::uramsheg_downsample(
+            rows,
+            cols,
+            level.as_ptr(),
+            level.len(),
+            out.as_mut_ptr(),
+            out.len(),
+            &mut half_rows,
+            &mut half_cols,
+        )
+    };
+    done(number, 0, (half_rows as usize, half_cols as usize))
+}
+
+/// Whether a set record is good.
+pub fn check_set(set: &[u8]) -> Result<(), Refusal> {
+    // SAFETY: the pointer goes with the slice's own length.
+    let number = unsafe { raw::uramsheg_set_check(set.as_ptr(), set.len()) };
+    done(number, 0, ())
+}
+
+/// The list's bytes, in as much room as the list needs.
+fn list(set: &[u8], thresholds: Thresholds, map: Map<'_>) -> Result<Vec<u8>, Refusal> {
+    let mut bytes = Vec::new();
+    let mut room = 1024;
+    loop {
+        bytes.resize(room * SPOT_BYTES, 0);
+        let found = detect(set, thresholds, map, &mut bytes)?;
+        if found <= room {
+            bytes.truncate(found * SPOT_BYTES);
+            return Ok(bytes);
+        }
+        room = found;
+    }
+}
+
+/// The map's spots.
+pub fn spots(set: &[u8], thresholds: Thresholds, map: Map<'_>) -> Result<Vec<Spot>, Refusal> {
+    let bytes = list(set, thresholds, map)?;
+    Ok(bytes.as_chunks().0.iter().map(Spot::from_record).collect())
+}
+
+/// The map's spots, each with its size and its home pixel.
+pub fn sized_spots(
+    set: &[u8],
+    thresholds: Thresholds,
+    map: Map<'_>,
+) -> Result<Vec<SizedSpot>, Refusal> {
+    let bytes = list(set, thresholds, map)?;
+    let mut sized = vec![0; bytes.len() / SPOT_BYTES * SIZED_BYTES];
+    join(set, map.rows, map.cols, &bytes, &mut sized)?;
+    Ok(sized
+        .as_chunks()
+        .0
+        .iter()
+        .map(SizedSpot::from_record)
+        .collect())
+}

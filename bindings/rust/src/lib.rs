@@ -1,0 +1,16 @@
+//! Uramsheg's detector for Rust. Every call ends, whatever it is given, and a refused call writes nothing; what each promises is proved
+//! (docs/PROMISES.md). The layouts of sets, spot records and sized records stand in include/uramsheg.h.
+
+#[cfg(feature = "detector")]
+mod detector;
+#[cfg(feature = "float")]
+pub mod float;
+mod refusal;
+mod spot;
+
+#[cfg(feature = "detector")]
+pub use detector::{
+    Map, Thresholds, check_set, correct, detect, downsample, join, octave_count, sized_spots, spots,
+};
+pub use refusal::Refusal;
+pub use spot::{SIZED_BYTES, SPOT_BYTES, SizedSpot, Spot};

@@ -1,0 +1,73 @@
+//! Why a call was refused, in words.
+
+use std::fmt;
+
+/// Why a call was refused. Where several apply, the one with the smallest number is given.
+#[derive(Clone, Copy, Debug, PartialEq, Eq)]
+pub enum Refusal {
+    /// 1: rows or cols above 4,096.
+    Size,
+    /// 2: a level is not rows times cols long.
+    Level,
+    /// 3: the octave is above 5.
+    Octave,
+    /// 4: the set record is not 528 bytes long or not good.
+    Set,
+    /// 5: the list is not a whole number of records (the index is then their number), or the record at the index is bad.
+    Records { index: usize },
+    /// 6: the output is shorter than needed.
+    Room,
+    /// 7: the spot has no size.
+    NoSize,
+}
+
+impl Refusal {
+    /// The refusal with a number and an index, as the C functions answer them; None for a number that is none of theirs.
+    pub fn from_number(number: u32, index: usize) -> Option<Refusal> {
+        Some(match number {
+            1 => Refusal::Size,
+            2 => Refusal::Level,
+            3 => Refusal::Octave,
+            4 => Refusal::Set,
+            5 => Refusal::Records { index },
+            6 => Refusal::Room,
+            7 => Refusal::NoSize,
+            _ => return None,
+        })
+    }
+
+    pub fn number(self) -> u32 {
+        match self {
+            Refusal::Size => 1,
+            Refusal::Level => 2,
+            Refusal::Octave => 3,
+            Refusal::Set => 4,
+            Refusal::Records { .. } => 5,
+            Refusal::Room => 6,
+            Refusal::NoSize => 7,
+        }
+    }
+}
+
+impl fmt::Display for Refusal {
+    fn fmt(&self, f: &mut fmt::Formatter<'_>) -> fmt::Result {
+        match self {
+            Refusal::Size => write!(f, "rows or cols above 4096: cut the map into tiles"),
+            Refusal::Level => write!(f, "a level is not rows * cols floats long"),
+            Refusal::Octave => write!(f, "the octave is above 5"),
+            Refusal::Set => write!(
+                f,
+                "the set record is not 528 bytes long, or the set is not good: its floats must be finite, its sigmas positive and rising, its cap not \
+                 below 0, its order bytes under 9 and its spare bytes 0"
+            ),
+            Refusal::Records { index } => write!(
+                f,
+                "the list is not a whole number of 40-byte records, or its record {index} is bad for this map"
+            ),
+            Refusal::Room => write!(f, "the output is too short: lend a longer one"),
+            Refusal::NoSize => write!(f, "this spot has no size"),
+        }
+    }
+}
+
+impl std::error::Error for Refusal {}

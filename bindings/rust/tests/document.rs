@@ -1,0 +1,291 @@
+//! Document 01's worked cases and its "others", through the archive.
+
+use uramsheg::{Map, Refusal, SIZED_BYTES, SPOT_BYTES, SizedSpot, Spot, Thresholds};
+
+const THRESHOLDS: Thresholds = Thresholds {
+    peak: 1.0,
+    sigma: 1.0,
+    ratio: 10.0,
+    low: 1.9027314,
+    high: 4.1498866,
+};
+
+/// Set T's record.
+fn set_t() -> Vec<u8> {
+    let mut words = vec![0.0f32; 129];
+    words[..4].copy_from_slice(&[1.0, 2.0, 3.0, 4.0]);
+    for table in [4, 16] {
+        for row in 1..4 {
+            words[table + 3 * row + row - 1] = 1.0;
+        }
+    }
+    for block in [28, 73] {
+        words[block + 3] = 1.0;
+        words[block + 9 + 5] = 1.0;
+        words[block + 27 + 4] = 0.25;
+    }
+    words[118..].copy_from_slice(&[1.0, 0.5, -4.0, 4.0, 0.5, 16.0, 0.5, 1.0, 0.125, 0.5, 1.0]);
+    let mut record: Vec<u8> = words.iter().flat_map(|word| word.to_le_bytes()).collect();
+    record.extend([0, 1, 2, 3, 4, 5, 6, 7, 8, 0, 0, 0]);
+    record
+}
+
+/// Four levels of zeros with map M's blob at the pixel (row, col).
+fn levels(rows: usize, cols: usize, (row, col): (usize, usize)) -> [Vec<f32>; 4] {
+    let mut levels = [0; 4].map(|_| vec![0.0; rows * cols]);
+    if row < rows && col < cols {
+        levels[0][col * rows + row] = 0.25;
+        levels[1][col * rows + row] = -0.25;
+    }
+    levels
+}
+
+fn map(rows: usize, cols: usize, levels: &[Vec<f32>; 4]) -> Map<'_> {
+    Map {
+        rows,
+        cols,
+        octave: 0,
+        levels: [0, 1, 2, 3].map(|level| levels[level].as_slice()),
+    }
+}
+
+fn hex(bytes: &[u8]) -> String {
+    bytes.iter().map(|byte| format!("{byte:02x}")).collect()
+}
+
+/// How many spots a map of these sides has, with map M's blob in it.
+fn found(rows: usize, cols: usize, place: (usize, usize)) -> Result<usize, Refusal> {
+    let levels = levels(rows, cols, place);
+    uramsheg::detect(&set_t(), THRESHOLDS, map(rows, cols, &levels), &mut [])
+}
+
+const RECORD_OF_M: &str =
+    "00009040000080400000004000008040000080bf0000804000000000000000002c00000000010100";
+
+#[test]
+fn map_m_lists_its_record() {
+    let levels = levels(9, 10, (4, 4));
+    let mut out = [0; SPOT_BYTES];
+    let answer = uramsheg::detect(&set_t(), THRESHOLDS, map(9, 10, &levels), &mut out);
+    assert_eq!(answer, Ok(1));
+    assert_eq!(hex(&out), RECORD_OF_M);
+}
+
+#[test]
+fn a_lost_pixel_strikes_the_spots_around_it_alone() {
+    for (lost, spots) in [((2, 4), 0), ((2, 2), 1)] {
+        let mut levels = levels(9, 10, (4, 4));
+        levels[0][lost.1 * 9 + lost.0] = f32::NAN;
+        let listed = uramsheg::spots(&set_t(), THRESHOLDS, map(9, 10, &levels)).unwrap();
+        assert_eq!(listed.len(), spots, "with {lost:?} lost");
+    }
+}
+
+#[test]
+fn short_buffers_hold_whole_records_alone() {
+    let levels = levels(9, 10, (4, 4));
+    for (room, written) in [(0, 0), (39, 0), (40, 40), (41, 40)] {
+        let mut out = vec![0xa5; room];
+        let answer = uramsheg::detect(&set_t(), THRESHOLDS, map(9, 10, &levels), &mut out);
+        assert_eq!(answer, Ok(1), "with room {room}");
+        assert_eq!(hex(&out[..written]), RECORD_OF_M[..2 * written]);
+        assert!(out[written..].iter().all(|&byte| byte == 0xa5));
+    }
+}
+
+#[test]
+fn a_side_of_8_has_no_judged_pixel_and_one_of_9_has() {
+    assert_eq!(found(8, 10, (4, 4)), Ok(0));
+    assert_eq!(found(9, 8, (4, 4)), Ok(0));
+    assert_eq!(found(9, 9, (4, 4)), Ok(1));
+    assert_eq!(found(0, 0, (4, 4)), Ok(0));
+}
+
+#[test]
+fn sides_to_4096() {
+    assert_eq!(found(4096, 9, (4091, 4)), Ok(1));
+    assert_eq!(found(9, 4096, (4, 4091)), Ok(1));
+    assert_eq!(found(4097, 9, (4, 4)), Err(Refusal::Size));
+    assert_eq!(found(9, 4097, (4, 4)), Err(Refusal::Size));
+}
+
+#[test]
+fn the_first_refusal_is_given_and_nothing_is_written() {
+    let levels = levels(9, 10, (4, 4));
+    let sound = map(9, 10, &levels);
+    let large = Map {
+        rows: 4097,
+        ..sound
+    };
+    let short = Map { cols: 11, ..sound };
+    let high = Map { octave: 6, ..sound };
+    let all = Map { octave: 6, ..large };
+    let (good, bad) = (set_t(), vec![0; 527]);
+    let cases = [
+        (&bad, all, Refusal::Size),
+        (&bad, large, Refusal::Size),
+        (&bad, Map { octave: 6, ..short }, Refusal::Level),
+        (&good, short, Refusal::Level),
+        (&bad, high, Refusal::Octave),
+        (&bad, sound, Refusal::Set),
+    ];
+    for (set, map, refusal) in cases {
+        let mut out = [0xa5; 80];
+        assert_eq!(
+            uramsheg::detect(set, THRESHOLDS, map, &mut out),
+            Err(refusal)
+        );
+        assert!(out.iter().all(|&byte| byte == 0xa5), "{refusal}");
+    }
+}
+
+#[test]
+fn the_join_sizes_each_record_by_itself() {
+    let levels = levels(9, 10, (4, 4));
+    let sized = uramsheg::sized_spots(&set_t(), THRESHOLDS, map(9, 10, &levels)).unwrap();
+    let SizedSpot {
+        spot,
+        size,
+        row,
+        col,
+    } = sized[0];
+    assert_eq!((sized.len(), row, col), (1, 4, 4));
+    let corrected = uramsheg::correct(&set_t(), spot.samples, spot.sigma, spot.is_max);
+    assert_eq!(size, corrected.ok());
+    assert!(size.is_some());
+}
+
+#[test]
+fn the_join_refuses_in_order() {
+    let mut record = [0; SPOT_BYTES];
+    let levels = levels(9, 10, (4, 4));
+    uramsheg::detect(&set_t(), THRESHOLDS, map(9, 10, &levels), &mut record).unwrap();
+    let two = [record, record].concat();
+    let mut damaged = two.clone();
+    damaged[SPOT_BYTES + 38] = 2;
+    let join = |set: &[u8], rows, list: &[u8], room: usize| {
+        let mut out = vec![0xa5; room];
+        let answer = uramsheg::join(set, rows, 10, list, &mut out);
+        assert!(answer.is_ok() || out.iter().all(|&byte| byte == 0xa5));
+        answer
+    };
+    let good = set_t();
+    assert_eq!(join(&[], 4097, &two[1..], 0), Err(Refusal::Size));
+    assert_eq!(join(&[], 9, &two[1..], 0), Err(Refusal::Set));
+    assert_eq!(
+        join(&good, 9, &damaged[..79], 0),
+        Err(Refusal::Records { index: 1 })
+    );
+    assert_eq!(
+        join(&good, 9, &damaged, 0),
+        Err(Refusal::Records { index: 1 })
+    );
+    assert_eq!(
+        join(&good, 9, &two, 2 * SIZED_BYTES - 1),
+        Err(Refusal::Room)
+    );
+    assert_eq!(join(&good, 9, &two, 2 * SIZED_BYTES), Ok(2));
+    assert_eq!(join(&good, 9, &[], 0), Ok(0));
+}
+
+#[test]
+fn correcting_map_m_as_a_minimum_gives_no_size() {
+    let answer = uramsheg::correct(&set_t(), [-1.0, 4.0, 0.0, 0.0], 2.0, false);
+    assert_eq!(answer, Err(Refusal::NoSize));
+    let bad = uramsheg::correct(&[], [-1.0, 4.0, 0.0, 0.0], 2.0, false);
+    assert_eq!(bad, Err(Refusal::Set));
+}
+
+#[test]
+fn octaves_by_the_shortest_side() {
+    for (side, octaves) in [
+        (0, 0),
+        (9, 0),
+        (10, 1),
+        (64, 1),
+        (65, 2),
+        (1024, 5),
+        (1025, 6),
+        (usize::MAX, 6),
+    ] {
+        assert_eq!(uramsheg::octave_count(side, usize::MAX), octaves);
+        assert_eq!(uramsheg::octave_count(usize::MAX, side), octaves);
+    }
+}
+
+#[test]
+fn halving_takes_every_second_pixel() {
+    let level: Vec<f32> = (0..15).map(|place| place as f32).collect();
+    let mut out = [-1.0; 3];
+    assert_eq!(uramsheg::downsample(5, 3, &level, &mut out), Ok((2, 1)));
+    assert_eq!(out, [0.0, 2.0, -1.0]);
+    assert_eq!(uramsheg::downsample(1, 15, &level, &mut out), Ok((0, 0)));
+    assert_eq!(
+        uramsheg::downsample(5, 3, &level, &mut out[..1]),
+        Err(Refusal::Room)
+    );
+    assert_eq!(
+        uramsheg::downsample(5, 4, &level, &mut []),
+        Err(Refusal::Level)
+    );
+    assert_eq!(
+        uramsheg::downsample(4097, 3, &[], &mut []),
+        Err(Refusal::Size)
+    );
+    assert_eq!(out, [0.0, 2.0, -1.0]);
+}
+
+#[test]
+fn sets_are_checked() {
+    let good = set_t();
+    assert_eq!(uramsheg::check_set(&good), Ok(()));
+    let damages = [
+        (3, 0xff),
+        (515, 0x7f),
+        (7, 0),
+        (516, 9),
+        (524, 9),
+        (525, 1),
+        (527, 1),
+    ];
+    for (place, byte) in damages {
+        let mut bad = good.clone();
+        bad[place] = byte;
+        if place == 3 || place == 515 {
+            bad[place - 1] = 0xff;
+        }
+        let answer = uramsheg::check_set(&bad);
+        assert_eq!(answer, Err(Refusal::Set), "byte {place} set to {byte}");
+    }
+    assert_eq!(uramsheg::check_set(&good[..527]), Err(Refusal::Set));
+}
+
+#[test]
+fn refusals_have_their_numbers_and_words() {
+    for number in 1..=7 {
+        let refusal = Refusal::from_number(number, 3).unwrap();
+        assert_eq!(refusal.number(), number);
+        assert!(!refusal.to_string().is_empty());
+    }
+    assert_eq!(Refusal::from_number(0, 0), None);
+    assert_eq!(Refusal::from_number(8, 0), None);
+}
+
+#[test]
+fn a_record_reads_as_a_spot() {
+    let mut record = [0; SPOT_BYTES];
+    let levels = levels(9, 10, (4, 4));
+    uramsheg::detect(&set_t(), THRESHOLDS, map(9, 10, &levels), &mut record).unwrap();
+    let spot = Spot {
+        x: 4.5,
+        y: 4.0,
+        sigma: 2.0,
+        peak: 4.0,
+        samples: [-1.0, 4.0, 0.0, 0.0],
+        key: 44,
+        octave: 0,
+        scale_index: 1,
+        is_max: true,
+    };
+    assert_eq!(Spot::from_record(&record), spot);
+}

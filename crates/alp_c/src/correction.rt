@@ -1,0 +1,48 @@
+// The C face of the correction.
+ghost use mathlib.Core.Path.{_≡_};
+ghost use mathlib.Core.List.{[], _∷_};
+ghost use Rattle.alp_c.specs.Face.{sizeNumber, sizeAfter, sizeLeft, correctFace};
+use size::Correction;
+
+// The number of an answer: 0, or that of the refusal.
+fn number_of(answer: Correction) -> u32
+    ensures { λ r. ⌜ r ≡ sizeNumber answer ⌝ }
+{
+    match answer {
+        Correction::Size(sigma) => 0,
+        Correction::Refused(why) => refusals::number_of(why),
+    }
+}
+
+// The corrected sigma; where there is none, what was there before.
+fn sigma_after(answer: Correction, before: f32) -> f32
+    ensures { λ r. ⌜ r ≡ sizeAfter answer before ⌝ }
+{
+    match answer {
+        Correction::Size(sigma) => sigma,
+        Correction::Refused(_) => before,
+    }
+}
+
+// Corrects the sigma of a spot with these samples under the set in the record set. Answers 0, with the corrected sigma in corrected, or the refusal's
+// number, with corrected as it was.
+#[no_mangle]
+pub extern "C" fn uramsheg_correct(
+    set: &[u8],
+    s0: f32,
+    s1: f32,
+    s2: f32,
+    s3: f32,
+    sigma: f32,
+    is_max: bool,
+    corrected: &mut f32,
+) -> u32
+    ensures { λ r. ⌜ sizeLeft r (now (corrected .exit))
+        ≡ correctFace (now (set .entry)) (s0 ∷ s1 ∷ s2 ∷ s3 ∷ []) sigma «is_max» (now (corrected .entry)) ⌝ }
+{
+    let read = tables::read_set(set);
+    let tables = read.set;
+    let answer = alp::correct(tables, [s0, s1, s2, s3], sigma, is_max);
+    *corrected = sigma_after(answer, *corrected);
+    number_of(answer)
+}

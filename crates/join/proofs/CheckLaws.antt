@@ -1,0 +1,110 @@
+-- Laws of the join's checks: the first bad record, and what a call that none refuses has.
+use Prim.Native.Nat.{ℕ, zero, suc, _+_, _-_, _*_, _/_, _%_, _≤_, _<_}
+use native.Mathlib.Nat.{not-suc-le-zero}
+use native.Mathlib.Omega.{arith}
+use mathlib.Core.Bool.{Bool, true, false, cond}
+use mathlib.Core.List.{List}
+use mathlib.Core.Path.{_≡_, refl}
+use lib.Dec.{ltb, eqb}
+use lib.ListN.{length}
+use borrow.Author.Tests.{ltb-true, ltb-false, lt-ltb, le-ltb, eqb-true, not-false}
+use Rattle.tables.specs.Set.{good}
+use Rattle.tables.specs.declared.Set.{Set}
+use Rattle.tables.specs.declared.Checked.the-variants.{Fine}
+use Rattle.record.specs.Layout.{recordAt}
+use Rattle.record.specs.Readable.{readable}
+use Rattle.join.specs.Join.{firstBad, badOf, joinChecks}
+use Rattle.join.proofs.FirstLaws.{unless-fine}
+
+-- ---- the first bad record
+
+module _ (rows cols : ℕ) (b : List ℕ) where
+  -- the i-th record is readable
+  abbrev fair : ℕ → Bool
+  fair i = readable rows cols (recordAt b i)
+
+  -- the first bad one of n from the i-th on
+  abbrev bad : ℕ → ℕ → ℕ
+  bad n i = firstBad rows cols b n i
+
+  -- the search starts with all records left, and goes by turns
+  pub bad-start : (n : ℕ) → bad n 0 ≡ bad (n - 0) 0
+  bad-start n = let all : n - 0 ≡ n = omega arith in rw all
+
+  pub bad-here : (n i : ℕ) → 0 < n → fair i ≡ false → bad n i ≡ i
+  unfolding firstBad
+  bad-here zero i h e = absurd (not-suc-le-zero h)
+  bad-here (suc n) i h e = rw e
+
+  pub bad-further : (n i : ℕ) → i < n → fair i ≡ true → bad (n - i) i ≡ bad (n - (i + 1)) (i + 1)
+  unfolding firstBad
+  bad-further n i h e =
+      let left : n - i ≡ suc (n - (i + 1)) = omega arith in
+      let next : i + 1 ≡ suc i = omega arith in
+      rw (left, e, next)
+
+  pub bad-end : (n i : ℕ) → n ≤ i → bad (n - i) i ≡ i
+  unfolding firstBad
+  bad-end n i h = let none : n - i ≡ 0 = omega arith in rw none
+
+  -- the records before it are readable
+  pub fair-before : (n i k : ℕ) → i ≤ k → k < bad n i → fair k ≡ true
+  unfolding firstBad
+  fair-before zero i k l h = let z : ⊥ = omega arith in absurd z
+  fair-before (suc n) i k l h = go (fair i) refl h (ltb i k) refl (λ after g. fair-before n (suc i) k after g)
+    where
+      go : (t : Bool) → fair i ≡ t → k < cond t (bad n (suc i)) i → (u : Bool) → ltb i k ≡ u → (i < k → k < bad n (suc i) → fair k ≡ true) → fair k ≡ true
+      go false e g u p further = let z : ⊥ = omega arith in absurd z
+      go true e g true p further = further (ltb-true i k p) g
+      go true e g false p further = let same : k ≡ i = omega (arith, ltb-false i k p) in rw same e
+
+  -- and it is not, where it is one of them
+  pub bad-unfair : (n i : ℕ) → bad n i < i + n → fair (bad n i) ≡ false
+  unfolding firstBad
+  bad-unfair zero i h = let z : ⊥ = omega arith in absurd z
+  bad-unfair (suc n) i h = go (fair i) refl h (bad-unfair n (suc i))
+    where
+      go : (t : Bool) → fair i ≡ t → cond t (bad n (suc i)) i < i + suc n → (bad n (suc i) < suc i + n → fair (bad n (suc i)) ≡ false)
+          → fair (cond t (bad n (suc i)) i) ≡ false
+      go false e g further = e
+      go true e g further = further (omega arith)
+
+-- ---- what no check refuses
+
+-- each thing that such a call has
+pub record Passed (s : Set) (rows cols : ℕ) (b : List ℕ) (room : ℕ) : Type 0 where
+  pub rows-most : rows ≤ 4096
+  pub cols-most : cols ≤ 4096
+  pub set-good : good s ≡ true
+  pub long : length b ≡ length b / 40 * 40
+  pub fair : (i : ℕ) → i < length b / 40 → readable rows cols (recordAt b i) ≡ true
+  pub room-enough : length b / 40 * 52 ≤ room
+
+whole-records : (n : ℕ) → n % 40 ≡ 0 → n ≡ n / 40 * 40
+whole-records n h = omega arith
+
+pub checks-passed : (s : Set) (rows cols : ℕ) (b : List ℕ) (room : ℕ) → joinChecks s rows cols b room ≡ Fine → Passed s rows cols b room
+unfolding joinChecks
+checks-passed s rows cols b room h =
+    let a = unless-fine _ _ _ h in
+    let c = unless-fine _ _ _ (a .1) in
+    let d = unless-fine _ _ _ (c .1) in
+    let e = unless-fine _ _ _ (d .1) in
+    let f = unless-fine _ _ _ (e .1) in
+    let g = unless-fine _ _ _ (f .1) in
+    record {
+      rows-most = ltb-false _ _ (a .0);
+      cols-most = ltb-false _ _ (c .0);
+      set-good = not-false (good s) (d .0);
+      long = whole-records (length b) (eqb-true _ _ (not-false (eqb (length b % 40) 0) (e .0)));
+      fair = λ i less. fair-before rows cols b (length b / 40) 0 i (omega arith) (omega (arith, ltb-false (badOf rows cols b) (length b / 40) (f .0)));
+      room-enough = ltb-false _ _ (g .0);
+    }
+
+-- ---- room, by the records that it holds
+
+pub too-short : (n room : ℕ) → room / 52 < n → ltb room (n * 52) ≡ true
+too-short n room h = lt-ltb room (n * 52) (omega arith)
+
+pub long-enough : (n room : ℕ) → n ≤ room / 52 → ltb room (n * 52) ≡ false
+long-enough n room h = le-ltb room (n * 52) (omega arith)

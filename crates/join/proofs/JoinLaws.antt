@@ -1,0 +1,142 @@
+-- What the join gives each spot: a size and a home from its own record alone, beside the record itself.
+use Prim.Native.Nat.{ℕ, zero, suc, _+_, _*_, _/_, _%_, _<_}
+use native.Mathlib.Nat.{not-suc-le-zero, le-of-suc-le-suc, zero-add}
+use native.Mathlib.Omega.{arith}
+use mathlib.Core.Bool.{true, false}
+use mathlib.Core.List.{List, [], _∷_, _++_, append-assoc}
+use mathlib.Core.Logic.{_⊎_, inl, inr}
+use mathlib.Core.Path.{_≡_, refl, sym, ap, _∙_}
+use lib.ListN.{length, getD, take, drop}
+use lib.Seq.{take-at, take-take, drop-append-add}
+use lib.Dec.{eqb, ltb}
+use lib.Ieee.{Float}
+use borrow.Author.Tests.{ltb-true}
+use Rattle.float.specs.Num.{f0}
+use Rattle.tables.specs.Set.{good, allUnder}
+use Rattle.tables.specs.Refusal.{number}
+use Rattle.tables.specs.declared.Set.{Set}
+use Rattle.tables.specs.declared.Refusal.the-variants as refusal
+use Rattle.tables.specs.declared.Checked.{Checked}
+use Rattle.tables.specs.declared.Checked.the-variants.{Fine, Bad}
+use Rattle.tables.proofs.SetLaws.{every-or-default}
+use Rattle.record.specs.declared.Record.{Record}
+use Rattle.record.specs.Layout.{floatBytes, recordBytes, recordAt}
+use Rattle.record.proofs.LayoutLaws.{length-recordBytes}
+use Rattle.record.proofs.ReadableLaws.{readable-parts}
+use Rattle.record.proofs.Converse as converse
+use Rattle.size.specs.Correct.{correctedOf, answerOf, correctBy, correctOf}
+use Rattle.size.specs.declared.Corrected.the-variants.{NoSize}
+use Rattle.size.specs.declared.Correction.the-variants.{Size, Refused}
+use Rattle.size.proofs.CorrectLaws.{size-is-corrected, refused-with-four-or-seven}
+use Rattle.join.specs.Sized.{sigmaOf, acceptedOf, samplesIn, sizeOf, homeOf, halfBytes, tailBytes, sizedBytes}
+use Rattle.join.specs.Join.{recordsFrom, sizedAll, joinChecks, laidSized, joined, joinOf}
+use Rattle.join.specs.declared.Joined.the-variants.{Count}
+use Rattle.join.proofs.CheckLaws.{Passed, checks-passed}
+use Rattle.join.proofs.SizedLaws.{length-sizedBytes}
+
+-- ---- a size
+
+module _ (s : Set) (r : Record) where
+  -- a size is exactly what correction answers for the record's own samples, sigma and polarity
+  pub size-is-corrects : good s ≡ true → answerOf (sizeOf s r) ≡ correctOf s (samplesIn r) (r .sigma) (eqb (r .polarity) 1)
+  unfolding sizeOf correctBy
+  size-is-corrects g = rw g
+
+  -- where correction answers a size, it stands after the record, then the home pixel, then accepted 1
+  pub sized-with-size : (cols : ℕ) (sigma : Float) → correctOf s (samplesIn r) (r .sigma) (eqb (r .polarity) 1) ≡ Size sigma
+      → sizedBytes s cols r ≡ recordBytes r ++ (floatBytes sigma ++ (halfBytes (r .key / cols) ++ (halfBytes (r .key % cols) ++ (1 ∷ 0 ∷ 0 ∷ 0 ∷ []))))
+  unfolding sizedBytes tailBytes sizeOf homeOf sigmaOf acceptedOf
+  sized-with-size cols sigma e = rw (size-is-corrected s (samplesIn r) (r .sigma) (eqb (r .polarity) 1) sigma e .1)
+
+  no-size : correctOf s (samplesIn r) (r .sigma) (eqb (r .polarity) 1) ≡ Refused refusal.NoSize → correctedOf s (samplesIn r) (r .sigma) (eqb (r .polarity) 1) ≡ NoSize
+  unfolding number
+  no-size e = go (refused-with-four-or-seven s (samplesIn r) (r .sigma) (eqb (r .polarity) 1) refusal.NoSize e)
+    where
+      go : ((good s ≡ false) × (_≡_ {A = ℕ} 7 4)) ⊎ ((good s ≡ true) × (correctedOf s (samplesIn r) (r .sigma) (eqb (r .polarity) 1) ≡ NoSize) × (_≡_ {A = ℕ} 7 7)) → correctedOf s (samplesIn r) (r .sigma) (eqb (r .polarity) 1) ≡ NoSize
+      go (inl h) = let z : ⊥ = omega (arith, h .1) in absurd z
+      go (inr h) = h .1
+
+  -- where correction answers that there is none, +0.0 and accepted 0 stand there
+  pub sized-without : (cols : ℕ) → correctOf s (samplesIn r) (r .sigma) (eqb (r .polarity) 1) ≡ Refused refusal.NoSize
+      → sizedBytes s cols r ≡ recordBytes r ++ (floatBytes f0 ++ (halfBytes (r .key / cols) ++ (halfBytes (r .key % cols) ++ (0 ∷ 0 ∷ 0 ∷ 0 ∷ []))))
+  unfolding sizedBytes tailBytes sizeOf homeOf sigmaOf acceptedOf
+  sized-without cols e = rw (no-size e)
+
+-- records that agree in the four samples, sigma and polarity have the same size, whatever else differs
+pub size-own : (s : Set) (r t : Record) → r .s0 ≡ t .s0 → r .s1 ≡ t .s1 → r .s2 ≡ t .s2 → r .s3 ≡ t .s3 → r .sigma ≡ t .sigma → r .polarity ≡ t .polarity → sizeOf s r ≡ sizeOf s t
+unfolding sizeOf
+size-own s r t e0 e1 e2 e3 sigma polarity = rw (e0, e1, e2, e3, sigma, polarity)
+
+-- ---- sized records, one after the other
+
+module _ (s : Set) (cols : ℕ) (b : List ℕ) where
+  sized-among : (n k i : ℕ) (rest : List ℕ) → i < n → take 52 (drop (i * 52) (sizedAll s cols (recordsFrom b n k) ++ rest)) ≡ sizedBytes s cols (recordAt b (k + i))
+  unfolding sizedAll recordsFrom
+  sized-among zero k i rest h = absurd (not-suc-le-zero h)
+  sized-among (suc n) k zero rest h =
+      let first : zero * 52 ≡ 0 = omega arith in
+      let same : k + zero ≡ k = omega arith in
+      rw (first, same, append-assoc (sizedBytes s cols (recordAt b k)) (sizedAll s cols (recordsFrom b n (suc k))) rest) (take-at (sizedBytes s cols (recordAt b k)) _ 52 (length-sizedBytes s cols (recordAt b k)))
+  sized-among (suc n) k (suc i) rest h =
+      let own : List ℕ = sizedBytes s cols (recordAt b k) in
+      let place : suc i * 52 ≡ length own + i * 52 = omega (arith, length-sizedBytes s cols (recordAt b k)) in
+      let next : k + suc i ≡ suc k + i = omega arith in
+      rw (place, next, append-assoc own (sizedAll s cols (recordsFrom b n (suc k))) rest, drop-append-add own (sizedAll s cols (recordsFrom b n (suc k)) ++ rest) (i * 52)) (sized-among n (suc k) i rest (le-of-suc-le-suc h))
+
+  pub laid-sized-at : (out : List ℕ) (i : ℕ) → i < length b / 40 → take 52 (drop (i * 52) (laidSized s cols b out)) ≡ sizedBytes s cols (recordAt b i)
+  unfolding laidSized
+  laid-sized-at out i h = sized-among (length b / 40) 0 i _ h ∙ ap (λ (k : ℕ). sizedBytes s cols (recordAt b k)) (zero-add i)
+
+-- ---- a call that answers a count
+
+counted : (w : Checked) (s : Set) (cols : ℕ) (b out : List ℕ) (n : ℕ) → joined w s cols b out .answer ≡ Count n
+    → (w ≡ Fine) × (n ≡ length b / 40) × (joined w s cols b out .buffer ≡ laidSized s cols b out)
+unfolding joined
+counted (Bad r) s cols b out n e = (cc, cc, cc)
+counted Fine s cols b out n e = (refl, cc, refl)
+
+module _ (s : Set) (rows cols : ℕ) (list out : List ℕ) (n : ℕ) (answered : joinOf s rows cols list out .answer ≡ Count n) where
+  abbrev after : List ℕ
+  after = joinOf s rows cols list out .buffer
+
+  parts : (joinChecks s rows cols list (length out) ≡ Fine) × (n ≡ length list / 40) × (after ≡ laidSized s cols list out)
+  unfolding joinOf
+  parts = counted _ s cols list out n answered
+
+  pub passed : Passed s rows cols list (length out)
+  passed = checks-passed s rows cols list (length out) (parts .0)
+
+  -- the count answered is the list's
+  pub count-is : n ≡ length list / 40
+  count-is = parts .1
+
+  -- the i-th sized record is a function of the i-th record, the set and cols alone
+  pub sized-at : (i : ℕ) → i < n → take 52 (drop (i * 52) after) ≡ sizedBytes s cols (recordAt list i)
+  sized-at i h = ap (λ (b : List ℕ). take 52 (drop (i * 52) b)) (parts .2) ∙ laid-sized-at s cols list out i (omega (arith, count-is))
+
+  -- the spot's own 40 bytes stand in its sized record unchanged
+  pub record-kept : (i : ℕ) → i < n → allUnder 256 list ≡ true → take 40 (drop (i * 52) after) ≡ take 40 (drop (i * 40) list)
+  unfolding sizedBytes
+  record-kept i h under =
+      let r : Record = recordAt list i in
+      let inside : i < length list / 40 = omega (arith, count-is) in
+      let bytes : (k : ℕ) → getD list k 0 < 256 = λ k. ltb-true _ _ (every-or-default (λ x. ltb x 256) list 0 k under refl) in
+      sym (take-take 40 52 (drop (i * 52) after) (omega arith))
+      ∙ ap (take 40) (sized-at i h)
+      ∙ take-at (recordBytes r) _ 40 (length-recordBytes r)
+      ∙ converse.record-kept list bytes (i * 40) (omega arith) (readable-parts rows cols r (passed .fair i inside) .floats)
+
+-- two calls with the same set and cols give equal records the same size and home, at whatever place and among whatever others
+pub same-record-same-size : (s : Set) (cols rows rows' : ℕ) (list list' out out' : List ℕ) (n n' i j : ℕ)
+    → joinOf s rows cols list out .answer ≡ Count n → joinOf s rows' cols list' out' .answer ≡ Count n' → i < n → j < n' → recordAt list i ≡ recordAt list' j
+    → take 52 (drop (i * 52) (joinOf s rows cols list out .buffer)) ≡ take 52 (drop (j * 52) (joinOf s rows' cols list' out' .buffer))
+same-record-same-size s cols rows rows' list list' out out' n n' i j a a' h h' e =
+    sized-at s rows cols list out n a i h ∙ ap (sizedBytes s cols) e ∙ sym (sized-at s rows' cols list' out' n' a' j h')
+
+-- and the same of equal bytes
+pub same-bytes-same-size : (s : Set) (cols rows rows' : ℕ) (list list' out out' : List ℕ) (n n' i j : ℕ)
+    → joinOf s rows cols list out .answer ≡ Count n → joinOf s rows' cols list' out' .answer ≡ Count n' → i < n → j < n'
+    → take 40 (drop (i * 40) list) ≡ take 40 (drop (j * 40) list')
+    → take 52 (drop (i * 52) (joinOf s rows cols list out .buffer)) ≡ take 52 (drop (j * 52) (joinOf s rows' cols list' out' .buffer))
+same-bytes-same-size s cols rows rows' list list' out out' n n' i j a a' h h' e =
+    same-record-same-size s cols rows rows' list list' out out' n n' i j a a' h h' (converse.same-bytes-same-record list list' (i * 40) (j * 40) e)

@@ -1,0 +1,6 @@
+-- What the proofs cite, and what the join's promise settles.
+pub mod FirstLaws
+pub mod CheckLaws
+pub mod SizedLaws
+pub mod JoinLaws
+pub mod RefusalsLaws

@@ -1,0 +1,20 @@
+-- The words of the claims about the join. Definitions only.
+use Prim.Native.Nat.{ℕ, _/_, _%_, _<_}
+use mathlib.Core.Bool.{true, false}
+use mathlib.Core.List.{List}
+use mathlib.Core.Path.{_≡_}
+use lib.ListN.{length}
+use Rattle.record.specs.Layout.{recordAt}
+use Rattle.record.specs.Readable.{readable}
+
+-- a list's length is no multiple of 40, and i is its whole record count
+pub record WrongLength (b : List ℕ) (i : ℕ) : Type 0 where
+  pub broken : length b % 40 ≡ 0 → ⊥
+  pub count : i ≡ length b / 40
+
+-- a list's length is a multiple of 40, and its i-th record is the first bad one
+pub record FirstBad (rows cols : ℕ) (b : List ℕ) (i : ℕ) : Type 0 where
+  pub whole : length b % 40 ≡ 0
+  pub inside : i < length b / 40
+  pub bad : readable rows cols (recordAt b i) ≡ false
+  pub earlier : (k : ℕ) → k < i → readable rows cols (recordAt b k) ≡ true

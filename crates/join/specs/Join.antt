@@ -1,0 +1,84 @@
+-- What the join answers, and what it leaves in the buffer, as one value of its input. Definitions only.
+use Prim.Native.Nat.{ℕ, zero, suc, _*_, _/_, _%_, _≤_, _<_}
+use mathlib.Core.Bool.{Bool, true, false, not, cond}
+use mathlib.Core.List.{List, [], _∷_, _++_}
+use lib.ListN.{length, drop}
+use lib.Dec.{ltb, eqb}
+use Rattle.tables.specs.declared.Set.{Set}
+use Rattle.tables.specs.declared.Refusal.{Refusal}
+use Rattle.tables.specs.declared.Refusal.the-variants.{Size, BadSet, Records, Room}
+use Rattle.tables.specs.declared.Checked.{Checked}
+use Rattle.tables.specs.declared.Checked.the-variants.{Fine, Bad}
+use Rattle.tables.specs.Set.{good}
+use Rattle.record.specs.declared.Record.{Record}
+use Rattle.record.specs.Layout.{recordAt}
+use Rattle.record.specs.Readable.{readable}
+use Rattle.join.specs.Sized.{sizedBytes}
+use Rattle.join.specs.declared.Joined.{Joined}
+use Rattle.join.specs.declared.Joined.the-variants.{Count, Refused}
+
+-- n records of a list's bytes, from the i-th on
+unfoldable pub recordsFrom : List ℕ → ℕ → ℕ → List Record
+recordsFrom b zero i = []
+recordsFrom b (suc n) i = recordAt b i ∷ recordsFrom b n (suc i)
+
+-- a list's records
+abbrev pub recordsOf : List ℕ → List Record
+recordsOf b = recordsFrom b (length b / 40) 0
+
+-- the index of the first of n records, from the i-th on, that is bad; i + n where none is
+unfoldable pub firstBad : ℕ → ℕ → List ℕ → ℕ → ℕ → ℕ
+firstBad rows cols b zero i = i
+firstBad rows cols b (suc n) i = cond (readable rows cols (recordAt b i)) (firstBad rows cols b n (suc i)) i
+
+-- the index of a list's first bad record; their number where none is
+abbrev pub badOf : ℕ → ℕ → List ℕ → ℕ
+badOf rows cols b = firstBad rows cols b (length b / 40) 0
+
+-- refuse r where the test holds, and look further otherwise
+unfoldable pub unless : Bool → Refusal → Checked → Checked
+unless true r next = Bad r
+unless false r next = next
+
+-- the join's checks in their order: 1, 4, 5, 6; the length of the list is looked at before its records
+unfoldable pub joinChecks : Set → ℕ → ℕ → List ℕ → ℕ → Checked
+joinChecks s rows cols b room =
+    unless (ltb 4096 rows) Size
+    (unless (ltb 4096 cols) Size
+    (unless (not (good s)) BadSet
+    (unless (not (eqb (length b % 40) 0)) (Records (length b / 40))
+    (unless (ltb (badOf rows cols b) (length b / 40)) (Records (badOf rows cols b))
+    (unless (ltb room (length b / 40 * 52)) Room Fine)))))
+
+-- sized records, one after the other
+unfoldable pub sizedAll : Set → ℕ → List Record → List ℕ
+sizedAll s cols [] = []
+sizedAll s cols (r ∷ rs) = sizedBytes s cols r ++ sizedAll s cols rs
+
+-- an answer, and the whole buffer after it
+pub record Outcome : Type 0 where
+  pub answer : Joined
+  pub buffer : List ℕ
+
+-- these two, given one by one
+abbrev pub outcome : Joined → List ℕ → Outcome
+outcome a b = record { answer = a; buffer = b }
+
+-- the sized records first, then the old bytes
+unfoldable pub laidSized : Set → ℕ → List ℕ → List ℕ → List ℕ
+laidSized s cols b out = let sized = sizedAll s cols (recordsOf b) in sized ++ drop (length sized) out
+
+-- a refusal writes nothing; otherwise the record count is answered, and the bytes past the sized records are kept
+unfoldable pub joined : Checked → Set → ℕ → List ℕ → List ℕ → Outcome
+joined (Bad r) s cols b out = outcome (Refused r) out
+joined Fine s cols b out = outcome (Count (length b / 40)) (laidSized s cols b out)
+
+-- the whole of the join
+unfoldable pub joinOf : Set → ℕ → ℕ → List ℕ → List ℕ → Outcome
+joinOf s rows cols b out = joined (joinChecks s rows cols b (length out)) s cols b out
+
+-- a record whose home pixel lies on a map of rows by cols, sides to 4,096
+pub record Fit (rows cols : ℕ) (r : Record) : Type 0 where
+  pub rows-most : rows ≤ 4096
+  pub cols-most : cols ≤ 4096
+  pub key : r .key < rows * cols

@@ -1,0 +1,47 @@
+-- A sized record: the spot's record, its size and its home pixel, as a function of the record, the set and cols. Definitions only.
+use Prim.Native.Nat.{ℕ, _/_, _%_}
+use mathlib.Core.List.{List, [], _∷_, _++_}
+use lib.Dec.{eqb}
+use lib.Ieee.{Float}
+use Rattle.float.specs.Num.{f0}
+use Rattle.tables.specs.declared.Set.{Set}
+use Rattle.record.specs.declared.Record.{Record}
+use Rattle.record.specs.Layout.{floatBytes, recordBytes}
+use Rattle.size.specs.Correct.{correctedOf}
+use Rattle.size.specs.declared.Corrected.{Corrected}
+use Rattle.size.specs.declared.Corrected.the-variants.{Sigma, NoSize}
+use Rattle.join.specs.declared.Home.{Home}
+
+-- the corrected sigma; where no size is given it is +0.0
+unfoldable pub sigmaOf : Corrected → Float
+sigmaOf (Sigma sigma) = sigma
+sigmaOf NoSize = f0
+
+-- accepted 1 or 0
+unfoldable pub acceptedOf : Corrected → ℕ
+acceptedOf (Sigma sigma) = 1
+acceptedOf NoSize = 0
+
+-- the four samples in a record
+abbrev pub samplesIn : Record → List Float
+samplesIn r = r .s0 ∷ r .s1 ∷ r .s2 ∷ r .s3 ∷ []
+
+-- the size that a record's own samples, sigma and polarity give
+unfoldable pub sizeOf : Set → Record → Corrected
+sizeOf s r = correctedOf s (samplesIn r) (r .sigma) (eqb (r .polarity) 1)
+
+-- the home pixel is the order key's own: key / cols and key % cols
+unfoldable pub homeOf : ℕ → ℕ → Home
+homeOf cols key = record { row = key / cols; col = key % cols }
+
+-- a u16's two bytes, the lower first
+unfoldable pub halfBytes : ℕ → List ℕ
+halfBytes v = v % 256 ∷ v / 256 ∷ []
+
+-- what follows the record: corrected sigma f32, home row u16, home col u16, accepted 1 or 0, three zero bytes
+unfoldable pub tailBytes : Corrected → Home → List ℕ
+tailBytes size home = floatBytes (sigmaOf size) ++ (halfBytes (home .row) ++ (halfBytes (home .col) ++ (acceptedOf size ∷ 0 ∷ 0 ∷ 0 ∷ [])))
+
+-- the 52 bytes
+unfoldable pub sizedBytes : Set → ℕ → Record → List ℕ
+sizedBytes s cols r = recordBytes r ++ tailBytes (sizeOf s r) (homeOf cols (r .key))

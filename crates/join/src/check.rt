@@ -1,0 +1,52 @@
+// The join's refusals, in their order.
+ghost use mathlib.Core.Path.{_≡_};
+ghost use Prim.Native.Nat.{_/_, _≤_};
+ghost use lib.ListN.{length};
+ghost use Rattle.join.specs.Join.{firstBad, joinChecks};
+use tables::Checked;
+use tables::Refusal;
+use tables::Set;
+
+// The index of the first record that is not readable; their number where each is.
+fn first_bad(rows: usize, cols: usize, list: &[u8]) -> usize
+    requires { ⌜ rows ≤ 4096 ⌝ }
+    requires { ⌜ cols ≤ 4096 ⌝ }
+    ensures { λ r. ⌜ r ≡ firstBad rows cols (now (list .entry)) (length (now (list .entry)) / 40) 0 ⌝ }
+{
+    let count = list.len() / 40;
+    let mut i: usize = 0;
+    while i < count {
+        if !record::is_readable(rows, cols, record::record_from(list, i * 40)) {
+            return i;
+        }
+        i += 1;
+    }
+    i
+}
+
+// The first refusal that applies, in the order of their numbers: 1, 4, 5, 6.
+pub fn checked(set: Set, rows: usize, cols: usize, list: &[u8], room: usize) -> Checked
+    ensures { λ r. ⌜ r ≡ joinChecks set rows cols (now (list .entry)) room ⌝ }
+{
+    if 4096 < rows {
+        return Checked::Bad(Refusal::Size);
+    }
+    if 4096 < cols {
+        return Checked::Bad(Refusal::Size);
+    }
+    if !tables::is_good(set) {
+        return Checked::Bad(Refusal::BadSet);
+    }
+    let count = list.len() / 40;
+    if list.len() % 40 != 0 {
+        return Checked::Bad(Refusal::Records(count));
+    }
+    let bad = first_bad(rows, cols, list);
+    if bad < count {
+        return Checked::Bad(Refusal::Records(bad));
+    }
+    if room / 52 < count {
+        return Checked::Bad(Refusal::Room);
+    }
+    Checked::Fine
+}

@@ -1,0 +1,115 @@
+// Sized records: what follows the spot's record in each, and all of a list's.
+ghost use mathlib.Core.Path.{_≡_};
+ghost use mathlib.Core.List.{[], _∷_};
+ghost use Prim.Native.Nat.{_+_, _*_, _/_, _<_, _≤_, _^_};
+ghost use lib.ListN.{length};
+ghost use lib.Seq.{sets};
+ghost use Rattle.join.specs.Sized.{sigmaOf, acceptedOf, halfBytes, tailBytes, homeOf, sizeOf, sizedBytes};
+ghost use Rattle.tables.specs.declared.Checked.the-variants.{Fine};
+ghost use Rattle.join.specs.Join.{recordsFrom, sizedAll, joinChecks, Fit};
+use crate::Home;
+use record::Record;
+use size::Corrected;
+use tables::Set;
+
+// The corrected sigma, +0.0 where no size is given.
+fn sigma_of(size: Corrected) -> f32
+    ensures { λ r. ⌜ r ≡ sigmaOf size ⌝ }
+{
+    match size {
+        Corrected::Sigma(sigma) => sigma,
+        Corrected::NoSize => 0.0,
+    }
+}
+
+// 1 where a size is given, else 0.
+fn accepted_of(size: Corrected) -> u8
+    ensures { λ r. ⌜ r ≡ acceptedOf size ⌝ }
+{
+    match size {
+        Corrected::Sigma(_) => 1,
+        Corrected::NoSize => 0,
+    }
+}
+
+// The size that a record's own samples, sigma and polarity give.
+fn size_of(set: Set, r: Record) -> Corrected
+    ensures { λ result. ⌜ result ≡ sizeOf set r ⌝ }
+{
+    let samples = [r.s0, r.s1, r.s2, r.s3];
+    size::anchor::corrected_sigma_from_anchor(set, samples, r.sigma, r.polarity == 1)
+}
+
+fn as_usize(v: u32) -> usize
+    ensures { λ r. ⌜ r ≡ v ⌝ }
+{
+    v as usize
+}
+
+// The home pixel, from the order key.
+fn home_of(cols: usize, key: u32) -> Home
+    requires { ⌜ 0 < cols ⌝ }
+    ensures { λ r. ⌜ r ≡ homeOf cols key ⌝ }
+{
+    let place = as_usize(key);
+    Home {
+        row: place / cols,
+        col: place % cols,
+    }
+}
+
+// A u16's two bytes from the byte at on, the lower first.
+fn put_half(out: &mut [u8], at: usize, v: usize)
+    requires { ⌜ at + 2 ≤ length (now out) ⌝ }
+    requires { ⌜ v < 2 ^ 16 ⌝ }
+    ensures { λ _. ⌜ now (out .exit) ≡ sets (now (out .entry)) at (halfBytes v) ⌝ }
+{
+    out[at] = (v % 256) as u8;
+    out[at + 1] = (v / 256) as u8;
+}
+
+// What follows a record, from the byte at on.
+fn put_tail(out: &mut [u8], at: usize, size: Corrected, home: Home)
+    requires { ⌜ at + 12 ≤ length (now out) ⌝ }
+    requires { ⌜ (home .row < 2 ^ 16) × (home .col < 2 ^ 16) ⌝ }
+    ensures { λ _. ⌜ now (out .exit) ≡ sets (now (out .entry)) at (tailBytes size home) ⌝ }
+{
+    record::put_float(out, at, sigma_of(size));
+    put_half(out, at + 4, home.row);
+    put_half(out, at + 6, home.col);
+    record::put_bytes(out, at + 8, accepted_of(size), 0, 0, 0);
+}
+
+// A record's 52 bytes from the byte at on.
+fn put_sized(out: &mut [u8], at: usize, set: Set, rows: usize, cols: usize, r: Record)
+    requires { ⌜ at + 52 ≤ length (now out) ⌝ }
+    requires { ⌜ Fit rows cols r ⌝ }
+    ensures { λ _. ⌜ now (out .exit) ≡ sets (now (out .entry)) at (sizedBytes set cols r) ⌝ }
+{
+    record::put_record(out, at, r);
+    let size = size_of(set, r);
+    let home = home_of(cols, r.key);
+    put_tail(out, at + 40, size, home);
+}
+
+// All records of the list, sized, from the buffer's start on; answers how many.
+pub fn put_all(set: Set, rows: usize, cols: usize, list: &[u8], out: &mut [u8]) -> usize
+    requires { ⌜ joinChecks set rows cols (now list) (length (now out)) ≡ Fine ⌝ }
+    ensures { λ r. ⌜ (r ≡ length (now (list .entry)) / 40)
+        × (now (out .exit) ≡ sets (now (out .entry)) 0 (sizedAll set cols (recordsFrom (now (list .entry)) (length (now (list .entry)) / 40) 0))) ⌝ }
+{
+    let count = list.len() / 40;
+    let mut i: usize = 0;
+    while i < count {
+        put_sized(
+            out,
+            i * 52,
+            set,
+            rows,
+            cols,
+            record::record_from(list, i * 40),
+        );
+        i += 1;
+    }
+    count
+}

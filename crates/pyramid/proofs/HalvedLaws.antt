@@ -1,0 +1,192 @@
+-- Laws of the halved level: its sides, its length, where its pixels lie, how it is stored, and what the checks leave to know. Assumes nothing.
+use Prim.Native.Nat.{ℕ, zero, suc, _+_, _*_, _/_, _≤_, _<_}
+use native.Mathlib.Nat.{not-suc-le-zero, add-zero, add-suc, suc-add, suc-mul, add-mul, mul-comm, mul-le-mul, mul-le-mul-right}
+use native.Mathlib.Numerals.{add-one}
+use native.Mathlib.Omega.{arith}
+use mathlib.Core.Bool.{Bool, true, false, cond, _||_}
+use mathlib.Core.Path.{_≡_, refl, sym, ap, _∙_}
+use mathlib.Core.List.{List, [], _∷_, _++_}
+use lib.ListN.{length, getD, drop, set, length-append, List·getD-append}
+use lib.Seq.{sets, length-sets, sets-eq, getD-at, getD-append-add}
+use lib.Dec.{ltb, eqb}
+use lib.Ieee.{Float, nan}
+use borrow.Author.Count.{below-more}
+use borrow.Author.Tests.{ltb-false, lt-ltb, le-ltb, eqb-true, not-false}
+use Rattle.tables.specs.declared.Refusal.{Refusal}
+use Rattle.tables.specs.declared.Checked.{Checked}
+use Rattle.tables.specs.declared.Checked.the-variants.{Fine}
+use Rattle.pyramid.specs.Pyramid.{halfOf, columnOf, columnsOf, halvedOf, needed, Halves, Stored, unless, downsampleChecks, outcome, downsampled}
+use Rattle.pyramid.specs.declared.Halved.the-variants.{Sides}
+
+-- ---- half a side
+
+chosen-twice : (b : Bool) (side : ℕ) → 2 * cond b 0 (side / 2) ≤ side
+chosen-twice true side = omega arith
+chosen-twice false side = omega arith
+
+-- twice the half is no more than the side
+pub half-twice : (side other : ℕ) → 2 * halfOf side other ≤ side
+unfolding halfOf
+half-twice side other = chosen-twice (ltb side 2 || ltb other 2) side
+
+or-true : (b : Bool) → (b || true) ≡ true
+or-true true = refl
+or-true false = refl
+
+-- sides of 2 or more are halved, rounded down
+pub half-of : (side other : ℕ) → 2 ≤ side → 2 ≤ other → halfOf side other ≡ side / 2
+unfolding halfOf
+half-of side other h k = rw (le-ltb side 2 h, le-ltb other 2 k)
+
+-- a side under 2 gives 0, whichever it is
+pub half-none : (side other : ℕ) → side < 2 → (halfOf side other ≡ 0) × (halfOf other side ≡ 0)
+unfolding halfOf
+half-none side other h = (rw (lt-ltb side 2 h), rw (lt-ltb side 2 h, or-true (ltb other 2)))
+
+-- ---- where the pixels lie
+
+before-last : (height n c r : ℕ) → c < n → r < height → c * height + r < n * height
+before-last height n c r h k = omega (arith, mul-le-mul-right {m = suc c} {n = n} height h, suc-mul c height)
+
+module _ (l : List Float) where
+  pub length-column : (p n : ℕ) → length (columnOf l p n) ≡ n
+  unfolding columnOf
+  length-column p zero = refl
+  length-column p (suc n) = length-append (columnOf l p n) _ ∙ rw (length-column p n, add-one)
+
+  -- a column's r-th float stands 2r places after its first
+  pub column-at : (p n r : ℕ) → r < n → getD (columnOf l p n) r nan ≡ getD l (p + 2 * r) nan
+  unfolding columnOf
+  column-at p zero r h = absurd (not-suc-le-zero h)
+  column-at p (suc n) r h =
+      below-more (λ k. getD (columnOf l p (suc n)) k nan ≡ getD l (p + 2 * k) nan) n
+      (λ k less. List·getD-append (columnOf l p n) _ nan k (omega (arith, length-column p n)) ∙ column-at p n k less)
+      (getD-at (columnOf l p n) _ [] nan n (length-column p n))
+      r (omega arith)
+
+  module _ (rows height : ℕ) where
+    pub length-columns : (n : ℕ) → length (columnsOf l rows height n) ≡ n * height
+    unfolding columnsOf
+    length-columns zero = omega arith
+    length-columns (suc n) =
+        omega (
+          arith,
+          length-append (columnsOf l rows height n) (columnOf l (2 * n * rows) height),
+          length-columns n,
+          length-column (2 * n * rows) height,
+          suc-mul n height,
+        )
+
+    -- pixel (r, c) of the first n columns is the level's (2r, 2c)
+    pub columns-at : (n c r : ℕ) → c < n → r < height → getD (columnsOf l rows height n) (c * height + r) nan ≡ getD l (2 * c * rows + 2 * r) nan
+    unfolding columnsOf
+    columns-at zero c r h k = absurd (not-suc-le-zero h)
+    columns-at (suc n) c r h k =
+        below-more (λ i. getD (columnsOf l rows height (suc n)) (i * height + r) nan ≡ getD l (2 * i * rows + 2 * r) nan) n
+        (λ i less.
+        List·getD-append (columnsOf l rows height n) _ nan (i * height + r) (omega (arith, length-columns n, before-last height n i r less k))
+        ∙ columns-at n i r less k)
+        (ap (λ (m : ℕ). getD (columnsOf l rows height (suc n)) (m + r) nan) (sym (length-columns n))
+        ∙ getD-append-add (columnsOf l rows height n) _ r nan
+        ∙ column-at (2 * n * rows) height r k)
+        c (omega arith)
+
+-- pixel (r, c) of the halved level is the level's (2r, 2c)
+pub halved-pixel : (rows cols : ℕ) (l : List Float) (r c : ℕ) → r < rows / 2 → c < cols / 2
+    → getD (halvedOf rows cols l) (c * (rows / 2) + r) nan ≡ getD l (2 * c * rows + 2 * r) nan
+unfolding halvedOf
+halved-pixel rows cols l r c h k =
+    rw (half-of rows cols (omega arith) (omega arith), half-of cols rows (omega arith) (omega arith)) (columns-at l rows (rows / 2) (cols / 2) c r k h)
+
+-- it lies before the halved level's end
+pub pixel-before : (rows cols r c : ℕ) → r < rows / 2 → c < cols / 2 → c * (rows / 2) + r < needed rows cols
+unfolding needed
+pixel-before rows cols r c h k =
+    rw (half-of rows cols (omega arith) (omega arith), half-of cols rows (omega arith) (omega arith))
+    (omega (arith, before-last (rows / 2) (cols / 2) c r k h, mul-comm (rows / 2) (cols / 2)))
+
+pub length-halved : (rows cols : ℕ) (l : List Float) → length (halvedOf rows cols l) ≡ needed rows cols
+unfolding halvedOf needed
+length-halved rows cols l = length-columns l rows (halfOf rows cols) (halfOf cols rows) ∙ mul-comm (halfOf cols rows) (halfOf rows cols)
+
+-- ---- how it is stored
+
+-- two runs of stores, one after the other, are one
+pub sets-append : {A : Type 0} (a b l : List A) (i : ℕ) → sets l i (a ++ b) ≡ sets (sets l i a) (i + length a) b
+sets-append [] b l i = rw add-zero
+sets-append (x ∷ a) b l i = rw (add-suc, ← suc-add) (sets-append a b (set l i x) (suc i))
+
+pub stored-none : {out : List Float} {at : ℕ} → Stored out out at []
+stored-none = record { floats = refl }
+
+pub stored-one : {out : List Float} {at : ℕ} {x : Float} → Stored out (set out at x) at (x ∷ [])
+stored-one = record { floats = refl }
+
+-- what is stored in two parts, one after the other
+pub stored-append : {a b c : List Float} {at m : ℕ} {fs gs : List Float} → Stored a b at fs → m ≡ at + length fs → Stored b c m gs → Stored a c at (fs ++ gs)
+stored-append {a = a} {at = at} {fs = fs} {gs = gs} p e q = record { floats = q .floats ∙ rw (e, p .floats) (sym (sets-append fs gs a at)) }
+
+pub stored-length : {a b : List Float} {at : ℕ} {fs : List Float} → Stored a b at fs → length b ≡ length a
+stored-length {a = a} {at = at} {fs = fs} p = ap length (p .floats) ∙ length-sets a at fs
+
+-- what is stored from the buffer's start on stands before the old floats
+pub stored-start : {a b : List Float} {fs : List Float} → Stored a b 0 fs → length fs ≤ length a → b ≡ fs ++ drop (length fs) a
+stored-start {a = a} {fs = fs} p room =
+    let start : 0 + length fs ≡ length fs = omega arith in
+    p .floats ∙ sets-eq fs a 0 (omega arith) ∙ ap (λ (k : ℕ). fs ++ drop k a) start
+
+-- ---- what the checks leave to know
+
+unless-fine : (b : Bool) (r : Refusal) (next : Checked) → unless b r next ≡ Fine → (b ≡ false) × (next ≡ Fine)
+unfolding unless
+unless-fine true r next h = (cc, cc)
+unless-fine false r next h = (refl, h)
+
+-- what no check refuses
+pub record Passed (n room rows cols : ℕ) : Type 0 where
+  pub rows-most : rows ≤ 4096
+  pub cols-most : cols ≤ 4096
+  pub long : n ≡ rows * cols
+  pub roomy : needed rows cols ≤ room
+
+pub checks-passed : (n room rows cols : ℕ) → downsampleChecks n room rows cols ≡ Fine → Passed n room rows cols
+unfolding downsampleChecks
+checks-passed n room rows cols h =
+    let a = unless-fine _ _ _ h in
+    let b = unless-fine _ _ _ (a .1) in
+    let c = unless-fine _ _ _ (b .1) in
+    let d = unless-fine _ _ _ (c .1) in
+    record {
+      rows-most = ltb-false _ _ (a .0);
+      cols-most = ltb-false _ _ (b .0);
+      long = eqb-true _ _ (not-false (eqb n (rows * cols)) (c .0));
+      roomy = ltb-false _ _ (d .0);
+    }
+
+pub area : {a b : ℕ} → a ≤ 4096 → b ≤ 4096 → a * b ≤ 16777216
+area = mul-le-mul
+
+pub passed-halves : {n room rows cols : ℕ} → Passed n room rows cols → Halves n room rows (halfOf rows cols) (halfOf cols rows)
+unfolding needed
+passed-halves {n} {room} {rows} {cols} p = record {
+  tall = half-twice rows cols;
+  wide = omega (arith, half-twice cols rows, p .cols-most);
+  inside = omega (arith, mul-le-mul-right {m = 2 * halfOf cols rows} {n = cols} rows (half-twice cols rows), mul-comm rows cols, p .long);
+  most = omega (arith, area (p .rows-most) (p .cols-most), p .long);
+  fits = omega (arith, p .roomy, mul-comm (halfOf cols rows) (halfOf rows cols));
+}
+
+-- column c's pixels lie in the level, and their places in the buffer
+pub column-inside : {n room rows height width : ℕ} (c : ℕ) → Halves n room rows height width → c < width
+    → (2 * c * rows + 2 * height ≤ n) × (c * height + height ≤ room)
+column-inside {rows = rows} {height = height} {width = width} c h less = (
+  omega (arith, mul-le-mul-right {m = 2 * c + 1} {n = 2 * width} rows (omega arith), add-mul (2 * c) 1 rows, h .tall, h .inside),
+  omega (arith, mul-le-mul-right {m = suc c} {n = width} height less, suc-mul c height, h .fits),
+)
+
+-- the halved level stored at the start of a buffer with room for it is what a call that no check refuses leaves
+pub halved-stored : (rows cols : ℕ) (l out : List Float) {out' : List Float} → Passed (length l) (length out) rows cols
+    → Stored out out' 0 (columnsOf l rows (halfOf rows cols) (halfOf cols rows))
+    → outcome (Sides (halfOf rows cols) (halfOf cols rows)) out' ≡ downsampled Fine rows cols l out
+unfolding downsampled halvedOf
+halved-stored rows cols l out p s = ap (outcome (Sides (halfOf rows cols) (halfOf cols rows))) (stored-start s (omega (arith, length-halved rows cols l, p .roomy)))

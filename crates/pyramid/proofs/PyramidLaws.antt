@@ -1,0 +1,281 @@
+-- What the promises of the pyramid's helpers settle: the octave count's bounds and worked cases, the halved level's pixels, what is kept, and the
+-- refusals. Assumes nothing.
+use Prim.Native.Nat.{ℕ, _+_, _*_, _/_, _-_, _≤_, _<_}
+use native.Mathlib.Omega.{arith}
+use mathlib.Core.Bool.{Bool, true, false, cond, _||_}
+use mathlib.Core.List.{List}
+use mathlib.Core.Path.{_≡_, refl, sym, ap, _∙_}
+use lib.ListN.{length, getD, drop, length-append, length-drop, List·getD-append}
+use lib.Seq.{getD-append-add, getD-drop}
+use lib.Dec.{ltb, leb}
+use lib.Ieee.{Float, nan}
+use borrow.Author.Tests.{ltb-false, leb-false, le-ltb, lt-leb}
+use Rattle.tables.specs.declared.Refusal.{Refusal}
+use Rattle.tables.specs.declared.Refusal.the-variants.{Size, Level, Octave, BadSet, Records, Room, NoSize}
+use Rattle.tables.specs.declared.Checked.{Checked}
+use Rattle.tables.specs.declared.Checked.the-variants.{Fine, Bad}
+use Rattle.tables.specs.Refusal.{number}
+use Rattle.pyramid.specs.Pyramid.{octavesOf, octaveCountOf, halfOf, halvedOf, needed, unless, downsampleChecks, applies, Outcome, outcome, downsampled, downsampleOf}
+use Rattle.pyramid.specs.declared.Halved.{Halved}
+use Rattle.pyramid.specs.declared.Halved.the-variants.{Sides, Refused}
+use Rattle.pyramid.proofs.HalvedLaws.{halved-pixel, pixel-before, length-halved, checks-passed}
+
+-- ---- the octave count
+
+-- two answers that the promise allows are equal
+pub octave-count-only : (rows cols r r' : ℕ) → r ≡ octaveCountOf rows cols → r' ≡ octaveCountOf rows cols → r ≡ r'
+octave-count-only rows cols r r' p q = p ∙ sym q
+
+chosen-most : (b : Bool) (n m k : ℕ) → n ≤ k → m ≤ k → cond b n m ≤ k
+chosen-most true n m k h g = h
+chosen-most false n m k h g = g
+
+-- where a test that fails at one side fails at the other too, the choices rise, and so does what lies under them
+chosen-rise : (b b' : Bool) (k n m m' : ℕ) → (b ≡ false → b' ≡ false) → k ≤ n → (m ≤ m') × (n ≤ m') → (cond b n m ≤ cond b' n m') × (k ≤ cond b' n m')
+chosen-rise true true k n m m' h g p = (omega arith, g)
+chosen-rise true false k n m m' h g p = (p .1, omega (arith, p .1))
+chosen-rise false true k n m m' h g p = let never : true ≡ false = h refl in let same : m ≡ n = cc in (omega (arith, same), g)
+chosen-rise false false k n m m' h g p = (p .0, omega (arith, p .1))
+
+under-rise : (d e k : ℕ) → d ≤ e → ltb d k ≡ false → ltb e k ≡ false
+under-rise d e k h f = le-ltb e k (omega (arith, ltb-false d k f))
+
+to-rise : (d e k : ℕ) → d ≤ e → leb d k ≡ false → leb e k ≡ false
+to-rise d e k h f = lt-leb e k (omega (arith, leb-false d k f))
+
+-- a longer shortest side has no fewer octaves
+pub octaves-rise : (d e : ℕ) → d ≤ e → octavesOf d ≤ octavesOf e
+unfolding octavesOf
+octaves-rise d e h =
+    chosen-rise (ltb d 10) (ltb e 10) 0 0 _ _ (under-rise d e 10 h) (omega arith)
+    (chosen-rise (leb d 64) (leb e 64) 0 1 _ _ (to-rise d e 64 h) (omega arith)
+    (chosen-rise (leb d 128) (leb e 128) 1 2 _ _ (to-rise d e 128 h) (omega arith)
+    (chosen-rise (leb d 256) (leb e 256) 2 3 _ _ (to-rise d e 256 h) (omega arith)
+    (chosen-rise (leb d 512) (leb e 512) 3 4 _ _ (to-rise d e 512 h) (omega arith)
+    (chosen-rise (leb d 1024) (leb e 1024) 4 5 6 6 (to-rise d e 1024 h) (omega arith) (omega arith, omega arith))))))
+    .0
+
+pub octave-count-rises : (rows cols rows' cols' : ℕ) → rows ≤ rows' → cols ≤ cols' → octaveCountOf rows cols ≤ octaveCountOf rows' cols'
+unfolding octaveCountOf
+octave-count-rises rows cols rows' cols' h g = octaves-rise _ _ (omega arith)
+
+octaves-most : (d : ℕ) → octavesOf d ≤ 6
+unfolding octavesOf
+octaves-most d =
+    chosen-most (ltb d 10) 0 _ 6 (omega arith)
+    (chosen-most (leb d 64) 1 _ 6 (omega arith)
+    (chosen-most (leb d 128) 2 _ 6 (omega arith)
+    (chosen-most (leb d 256) 3 _ 6 (omega arith)
+    (chosen-most (leb d 512) 4 _ 6 (omega arith)
+    (chosen-most (leb d 1024) 5 6 6 (omega arith) (omega arith))))))
+
+-- at most 6 octaves
+pub octave-count-most : (rows cols : ℕ) → octaveCountOf rows cols ≤ 6
+unfolding octaveCountOf
+octave-count-most rows cols = octaves-most _
+
+-- P7: a shortest side of 9 gives 0, 10 gives 1, 64 gives 1, 65 gives 2, and 1,025 gives 6
+pub count-of-9 : octaveCountOf 9 9 ≡ 0
+unfolding octaveCountOf octavesOf
+count-of-9 = refl
+
+pub count-of-10 : octaveCountOf 10 10 ≡ 1
+unfolding octaveCountOf octavesOf
+count-of-10 = refl
+
+pub count-of-64 : octaveCountOf 64 64 ≡ 1
+unfolding octaveCountOf octavesOf
+count-of-64 = refl
+
+pub count-of-65 : octaveCountOf 65 65 ≡ 2
+unfolding octaveCountOf octavesOf
+count-of-65 = refl
+
+pub count-of-1025 : octaveCountOf 1025 1025 ≡ 6
+unfolding octaveCountOf octavesOf
+count-of-1025 = refl
+
+-- ---- three tests, of which the first that holds decides
+
+unfoldable firstOf : Bool → Bool → Bool → Checked
+firstOf a b c = unless a Size (unless b Level (unless c Room Fine))
+
+unfoldable among : Bool → Bool → Bool → Refusal → Bool
+among a b c Size = a
+among a b c Level = b
+among a b c Octave = false
+among a b c BadSet = false
+among a b c (Records i) = false
+among a b c Room = c
+among a b c NoSize = false
+
+none-under : (a b c : Bool) (k : ℕ) → (1 < k → a ≡ false) → (2 < k → b ≡ false) → (6 < k → c ≡ false) → (q : Refusal) → number q < k → among a b c q ≡ false
+unfolding number among
+none-under a b c k ha hb hc Size h = ha h
+none-under a b c k ha hb hc Level h = hb h
+none-under a b c k ha hb hc Octave h = refl
+none-under a b c k ha hb hc BadSet h = refl
+none-under a b c k ha hb hc (Records i) h = refl
+none-under a b c k ha hb hc Room h = hc h
+none-under a b c k ha hb hc NoSize h = refl
+
+outside : {A : Type 0} (i k : ℕ) → k ≤ i → i < k → A
+outside i k p q = let z : ⊥ = omega arith in absurd z
+
+-- the one refused holds, and none of a smaller number does
+unfoldable First : Bool → Bool → Bool → Refusal → Type 0
+First a b c r = (among a b c r ≡ true) × ((q : Refusal) → number q < number r → among a b c q ≡ false)
+
+first-refused : (a b c : Bool) (r : Refusal) → firstOf a b c ≡ Bad r → First a b c r
+unfolding firstOf unless among number First
+first-refused true b c r h =
+    let e : Size ≡ r = cc in
+    rw (← e) (refl, none-under true b c 1 (outside 1 1 (omega arith)) (outside 2 1 (omega arith)) (outside 6 1 (omega arith)))
+first-refused false true c r h =
+    let e : Level ≡ r = cc in
+    rw (← e) (refl, none-under false true c 2 (λ l. refl) (outside 2 2 (omega arith)) (outside 6 2 (omega arith)))
+first-refused false false true r h =
+    let e : Room ≡ r = cc in
+    rw (← e) (refl, none-under false false true 6 (λ l. refl) (λ l. refl) (outside 6 6 (omega arith)))
+first-refused false false false r h = (cc, λ q l. cc)
+
+first-fine : (a b c : Bool) → firstOf a b c ≡ Fine → (q : Refusal) → among a b c q ≡ false
+unfolding firstOf unless among
+first-fine true b c h q = cc
+first-fine false true c h q = cc
+first-fine false false true h q = cc
+first-fine false false false h Size = refl
+first-fine false false false h Level = refl
+first-fine false false false h Octave = refl
+first-fine false false false h BadSet = refl
+first-fine false false false h (Records i) = refl
+first-fine false false false h Room = refl
+first-fine false false false h NoSize = refl
+
+none-fine : (a b c : Bool) → a ≡ false → b ≡ false → c ≡ false → firstOf a b c ≡ Fine
+unfolding firstOf unless
+none-fine a b c ha hb hc = rw (ha, hb, hc)
+
+unless-or : (a b : Bool) (r : Refusal) (next : Checked) → unless (a || b) r next ≡ unless a r (unless b r next)
+unfolding unless
+unless-or true b r next = refl
+unless-or false b r next = refl
+
+-- ---- over the outcome of the checks
+
+module _ (rows cols : ℕ) (l out : List Float) where
+  abbrev left : Checked → Outcome
+  left w = downsampled w rows cols l out
+
+  answer-refused : (w : Checked) (r : Refusal) → left w .answer ≡ Refused r → w ≡ Bad r
+  unfolding downsampled
+  answer-refused (Bad q) r e = cc
+  answer-refused Fine r e = cc
+
+  buffer-kept : (w : Checked) (r : Refusal) → left w .answer ≡ Refused r → left w .buffer ≡ out
+  unfolding downsampled
+  buffer-kept (Bad q) r e = refl
+  buffer-kept Fine r e = cc
+
+  answer-halved : (w : Checked) (h v : ℕ) → left w .answer ≡ Sides h v → (w ≡ Fine) × ((h ≡ halfOf rows cols) × (v ≡ halfOf cols rows))
+  unfolding downsampled
+  answer-halved (Bad q) h v e = (cc, (cc, cc))
+  answer-halved Fine h v e = (refl, (cc, cc))
+
+  buffer-length : (w : Checked) → (w ≡ Fine → needed rows cols ≤ length out) → length (left w .buffer) ≡ length out
+  unfolding downsampled
+  buffer-length (Bad q) h = refl
+  buffer-length Fine h =
+      let halved = halvedOf rows cols l in
+      omega (arith, length-append halved (drop (length halved) out), length-drop (length halved) out, length-halved rows cols l, h refl)
+
+  buffer-past : (w : Checked) (i : ℕ) → needed rows cols ≤ i → getD (left w .buffer) i nan ≡ getD out i nan
+  unfolding downsampled
+  buffer-past (Bad q) i h = refl
+  buffer-past Fine i h =
+      let halved = halvedOf rows cols l in
+      let e : length halved + (i - length halved) ≡ i = omega (arith, length-halved rows cols l) in
+      rw (← e, getD-append-add halved, getD-drop (length halved) out)
+
+  buffer-halved : (w : Checked) → w ≡ Fine → (i : ℕ) → i < needed rows cols → getD (left w .buffer) i nan ≡ getD (halvedOf rows cols l) i nan
+  unfolding downsampled
+  buffer-halved (Bad q) e i h = cc
+  buffer-halved Fine e i h = List·getD-append (halvedOf rows cols l) _ nan i (omega (arith, length-halved rows cols l))
+
+-- ---- a call
+
+module _ (rows cols : ℕ) (l out : List Float) where
+  abbrev wrong : Refusal → Bool
+  wrong r = applies r rows cols l out
+
+  abbrev after : Outcome
+  after = downsampleOf rows cols l out
+
+  -- two answers that the promise allows are equal, with their buffers
+  pub downsample-only : (r r' : Halved) (o o' : List Float) → outcome r o ≡ after → outcome r' o' ≡ after → (r ≡ r') × (o ≡ o')
+  downsample-only r r' o o' p q = (ap (λ (x : Outcome). x .answer) (p ∙ sym q), ap (λ (x : Outcome). x .buffer) (p ∙ sym q))
+
+  -- the new sides are half the sides
+  pub sides-halved : (h w : ℕ) → after .answer ≡ Sides h w → (h ≡ halfOf rows cols) × (w ≡ halfOf cols rows)
+  unfolding downsampleOf
+  sides-halved h w e = answer-halved rows cols l out _ h w e .1
+
+  -- the result's pixel (r, c) is the level's (2r, 2c); the result lies by columns of rows/2
+  pub pixel-taken : (h w : ℕ) → after .answer ≡ Sides h w → (r c : ℕ) → r < rows / 2 → c < cols / 2
+      → getD (after .buffer) (c * (rows / 2) + r) nan ≡ getD l (2 * c * rows + 2 * r) nan
+  unfolding downsampleOf
+  pixel-taken h w e r c p q =
+      buffer-halved rows cols l out _ (answer-halved rows cols l out _ h w e .0) _ (pixel-before rows cols r c p q) ∙ halved-pixel rows cols l r c p q
+
+  -- what lies past the result is kept
+  pub past-kept : (i : ℕ) → needed rows cols ≤ i → getD (after .buffer) i nan ≡ getD out i nan
+  unfolding downsampleOf
+  past-kept i h = buffer-past rows cols l out _ i h
+
+  -- the buffer keeps its length
+  pub length-kept : length (after .buffer) ≡ length out
+  unfolding downsampleOf
+  length-kept = buffer-length rows cols l out _ (λ e. checks-passed _ _ _ _ e .roomy)
+
+  wrong-among : (r : Refusal) → wrong r ≡ among (wrong Size) (wrong Level) (wrong Room) r
+  unfolding applies among
+  wrong-among Size = refl
+  wrong-among Level = refl
+  wrong-among Octave = refl
+  wrong-among BadSet = refl
+  wrong-among (Records i) = refl
+  wrong-among Room = refl
+  wrong-among NoSize = refl
+
+  checks-first : firstOf (wrong Size) (wrong Level) (wrong Room) ≡ downsampleChecks (length l) (length out) rows cols
+  unfolding downsampleChecks firstOf applies
+  checks-first = simp unless-or
+
+  refused : (r : Refusal) → after .answer ≡ Refused r → First (wrong Size) (wrong Level) (wrong Room) r
+  unfolding downsampleOf
+  refused r e = first-refused _ _ _ r (checks-first ∙ answer-refused rows cols l out _ r e)
+
+  -- a refusal that is answered applies
+  pub refused-applies : (r : Refusal) → after .answer ≡ Refused r → wrong r ≡ true
+  unfolding First
+  refused-applies r e = wrong-among r ∙ refused r e .0
+
+  -- and none with a smaller number does: the order is 1, 2, 6
+  pub refused-first : (r : Refusal) → after .answer ≡ Refused r → (q : Refusal) → number q < number r → wrong q ≡ false
+  unfolding First
+  refused-first r e q h = wrong-among q ∙ refused r e .1 q h
+
+  -- a refusal writes nothing
+  pub refused-keeps : (r : Refusal) → after .answer ≡ Refused r → after .buffer ≡ out
+  unfolding downsampleOf
+  refused-keeps r e = buffer-kept rows cols l out _ r e
+
+  -- a call that answers sides has none that applies
+  pub halved-none : (h w : ℕ) → after .answer ≡ Sides h w → (q : Refusal) → wrong q ≡ false
+  unfolding downsampleOf
+  halved-none h w e q = wrong-among q ∙ first-fine _ _ _ (checks-first ∙ answer-halved rows cols l out _ h w e .0) q
+
+  -- and a call to which none applies answers the new sides
+  pub none-halved : ((q : Refusal) → wrong q ≡ false) → after .answer ≡ Sides (halfOf rows cols) (halfOf cols rows)
+  unfolding downsampleOf downsampled
+  none-halved h = rw (sym checks-first ∙ none-fine _ _ _ (h Size) (h Level) (h Room))
