@@ -1,25 +1,18 @@
 -- Laws of detection's checks, and of what it leaves.
 use Prim.Native.Nat.{ℕ, _*_, _≤_}
 use native.Mathlib.Nat.{zero-add}
-use mathlib.Core.Bool.{Bool, true, false}
 use mathlib.Core.List.{List}
-use mathlib.Core.Path.{_≡_, refl}
+use mathlib.Core.Path.{_≡_}
 use lib.Dec.{eqb}
 use borrow.Author.Tests.{ltb-false, eqb-true, not-false}
 use Rattle.tables.specs.declared.Set.{Set}
-use Rattle.tables.specs.declared.Refusal.{Refusal}
-use Rattle.tables.specs.declared.Checked.{Checked}
 use Rattle.tables.specs.declared.Checked.the-variants.{Fine}
+use Rattle.tables.proofs.RefusalLaws.{unless-fine}
 use Rattle.record.proofs.LayoutLaws.{lay-laid}
 use Rattle.alp.specs.Level.{Maps, Sized}
 use Rattle.alp.specs.Due.{due, Laid}
-use Rattle.alp.specs.Detect.{detectChecks, unless, outcome, detected}
+use Rattle.alp.specs.Detect.{detectChecks, outcome, detected}
 use Rattle.alp.specs.declared.Answer.the-variants.{Found}
-
-unless-fine : (b : Bool) (r : Refusal) (next : Checked) → unless b r next ≡ Fine → (b ≡ false) × (next ≡ Fine)
-unfolding unless
-unless-fine true r next h = (cc, cc)
-unless-fine false r next h = (refl, h)
 
 -- what no check refuses
 pub record Passed (n0 n1 n2 n3 rows cols octave : ℕ) : Type 0 where

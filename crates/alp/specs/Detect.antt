@@ -1,27 +1,22 @@
 -- What detection answers, and what it leaves in the buffer, as one value of its input. Definitions only.
 use Prim.Native.Nat.{ℕ, _*_}
-use mathlib.Core.Bool.{Bool, true, false, not}
+use mathlib.Core.Bool.{not}
 use mathlib.Core.List.{List}
 use lib.ListN.{length}
 use lib.Dec.{ltb, eqb}
 use lib.Ieee.{Float}
 use Rattle.tables.specs.declared.Set.{Set}
 use Rattle.tables.specs.declared.Thresholds.{Thresholds}
-use Rattle.tables.specs.declared.Refusal.{Refusal}
 use Rattle.tables.specs.declared.Refusal.the-variants.{Size, Level, Octave, BadSet}
 use Rattle.tables.specs.declared.Checked.{Checked}
 use Rattle.tables.specs.declared.Checked.the-variants.{Fine, Bad}
 use Rattle.tables.specs.Set.{good}
+use Rattle.tables.specs.Refusal.{unless}
 use Rattle.record.specs.Layout.{laid}
 use Rattle.alp.specs.Level.{Maps, mapsOf}
 use Rattle.alp.specs.Due.{due}
 use Rattle.alp.specs.declared.Answer.{Answer}
 use Rattle.alp.specs.declared.Answer.the-variants.{Found, Refused}
-
--- refuse r where the test holds, and look further otherwise
-unfoldable pub unless : Bool → Refusal → Checked → Checked
-unless true r next = Bad r
-unless false r next = next
 
 -- detection's checks in their order: 1, 2, 3, 4
 unfoldable pub detectChecks : ℕ → ℕ → ℕ → ℕ → ℕ → ℕ → ℕ → Set → Checked

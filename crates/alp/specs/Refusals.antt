@@ -1,7 +1,7 @@
 -- When a refusal applies to a call of detection. Definitions only.
 use Prim.Native.Nat.{ℕ, _*_}
 use mathlib.Core.Bool.{Bool, false, not, _||_}
-use mathlib.Core.List.{List}
+use mathlib.Core.List.{List, [], _∷_}
 use lib.ListN.{length}
 use lib.Dec.{ltb, eqb}
 use lib.Ieee.{Float}
@@ -20,3 +20,7 @@ applies BadSet s rows cols octave l0 l1 l2 l3 = not (good s)
 applies (Records i) s rows cols octave l0 l1 l2 l3 = false
 applies Room s rows cols octave l0 l1 l2 l3 = false
 applies NoSize s rows cols octave l0 l1 l2 l3 = false
+
+-- those that can apply, in the order of their numbers
+unfoldable pub refusals : List Refusal
+refusals = Size ∷ Level ∷ Octave ∷ BadSet ∷ []

@@ -9,6 +9,7 @@ use lib.Dec.{eqb}
 use lib.ListN.{length}
 use lib.Ieee.{Float, lt, ofBits, ofFields, odd}
 use Rattle.float.specs.Small.{finite}
+use Rattle.float.proofs.Bools.{both}
 use Rattle.tables.specs.declared.Set.{Set}
 use Rattle.tables.specs.declared.SetRead.{SetRead}
 use Rattle.tables.specs.declared.Thresholds.{Thresholds}
@@ -48,11 +49,7 @@ blank-bad = refl
 
 good-setOf : (b : List ℕ) → goodRecord b ≡ true → good (setOf b) ≡ true
 unfolding goodRecord
-good-setOf b e = last (eqb (length b) 528 && spareZero b) (good (setOf b)) e
-  where
-    last : (x y : Bool) → (x && y) ≡ true → y ≡ true
-    last true y h = h
-    last false y h = cc
+good-setOf b e = both (eqb (length b) 528 && spareZero b) (good (setOf b)) e .1
 
 -- the set that is read is good exactly when the record is
 pub read-good : (b : List ℕ) → good (readSetOf b .set) ≡ goodRecord b

@@ -10,7 +10,7 @@ fn number_of(answer: Correction) -> u32
 {
     match answer {
         Correction::Size(sigma) => 0,
-        Correction::Refused(why) => refusals::number_of(why),
+        Correction::Refused(why) => tables::refusals::number_of(why),
     }
 }
 

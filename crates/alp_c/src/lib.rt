@@ -16,7 +16,7 @@ fn number_of(answer: Answer) -> u32
 {
     match answer {
         Answer::Found(n) => 0,
-        Answer::Refused(why) => refusals::number_of(why),
+        Answer::Refused(why) => tables::refusals::number_of(why),
     }
 }
 
@@ -26,7 +26,7 @@ fn value_of(answer: Answer) -> u64
 {
     match answer {
         Answer::Found(n) => n as u64,
-        Answer::Refused(why) => refusals::index_of(why),
+        Answer::Refused(why) => tables::refusals::index_of(why),
     }
 }
 
@@ -77,6 +77,6 @@ pub extern "C" fn uramsheg_set_check(set: &[u8]) -> u32
     let answer = read.answer;
     match answer {
         Checked::Fine => 0,
-        Checked::Bad(why) => refusals::number_of(why),
+        Checked::Bad(why) => tables::refusals::number_of(why),
     }
 }

@@ -18,7 +18,7 @@ fn number_of(answer: Halved) -> u32
 {
     match answer {
         Halved::Sides(rows, cols) => 0,
-        Halved::Refused(why) => refusals::number_of(why),
+        Halved::Refused(why) => tables::refusals::number_of(why),
     }
 }
 

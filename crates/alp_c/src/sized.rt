@@ -9,7 +9,7 @@ fn number_of(answer: Joined) -> u32
 {
     match answer {
         Joined::Count(n) => 0,
-        Joined::Refused(why) => refusals::number_of(why),
+        Joined::Refused(why) => tables::refusals::number_of(why),
     }
 }
 
@@ -19,7 +19,7 @@ fn value_of(answer: Joined) -> u64
 {
     match answer {
         Joined::Count(n) => n as u64,
-        Joined::Refused(why) => refusals::index_of(why),
+        Joined::Refused(why) => tables::refusals::index_of(why),
     }
 }
 

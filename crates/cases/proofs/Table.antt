@@ -12,7 +12,8 @@ use Rattle.float.specs.Cases as floats
 use Rattle.tables.specs.Set.{every, rising, allSet, good, blank}
 use Rattle.tables.specs.Refusal.{number}
 use Rattle.tables.specs.SetT.{values, sigmasT, cubicT, row, blockT, numbersT, setT}
-use Rattle.record.specs.Layout.{wordBytes, floatBytes, floats4, recordBytes, bytesOf}
+use Rattle.words.specs.Words.{wordBytes, floatBytes}
+use Rattle.record.specs.Layout.{floats4, recordBytes, bytesOf}
 use Rattle.record.specs.Readable as readable
 use Rattle.fit.specs.Cubic.{rowOf, coeffsOf, hornerOf, discriminantOf, curvatureOf}
 use Rattle.fit.specs.Band.{bandBy, finiteCubic, signOf, stationaryOf, betterBy, extremeBy}

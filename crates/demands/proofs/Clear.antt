@@ -7,8 +7,7 @@ use mathlib.Core.Bool.{Bool, true, false}
 use mathlib.Core.Logic.{_↔_, ⊎-elim}
 use lib.Arith.{digits-lt, digits-div, digits-mod}
 use Rattle.demands.specs.TwoMaps.{off, of21, clearTo, clear}
-use Rattle.fit.proofs.Finite.{and-true}
-use Rattle.demands.proofs.Tests.{not-both, second-false}
+use Rattle.float.proofs.Bools.{both, not-both, second-false}
 use Rattle.demands.proofs.Ring.{near-both}
 
 -- the place of b among the five around a
@@ -21,7 +20,7 @@ module _ (lost : ℕ → ℕ → Bool) (row col : ℕ) where
   unfolding clearTo
   clear-at zero t k h on = let z : ⊥ = omega arith in absurd z
   clear-at (suc n) t k h on =
-      let p = and-true (clearTo lost row col n) _ t in
+      let p = both (clearTo lost row col n) _ t in
       let last : k ≤ n = omega arith in
       ⊎-elim (λ e. rw e (second-false (of21 row col (row + n / 5 - 2) (col + n % 5 - 2)) _ (p .1) (rw e at on)))
       (λ q. clear-at n (p .0) k q on)

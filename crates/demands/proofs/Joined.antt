@@ -9,13 +9,15 @@ use lib.Seq.{getD-take}
 use lib.Dec.{ltb}
 use lib.Ieee.{Float, binary32, ofBits}
 use borrow.Author.Tests.{ltb-false, le-ltb, eq-eqb, not-false}
+use Rattle.float.proofs.Bools.{neither}
 use Rattle.tables.specs.declared.Set.{Set}
 use Rattle.tables.specs.declared.Thresholds.{Thresholds}
 use Rattle.tables.specs.declared.Refusal.the-variants.{Size, BadSet, Records, Room}
 use Rattle.tables.specs.declared.Checked.the-variants.{Fine, Bad}
 use Rattle.tables.specs.Set.{good}
 use Rattle.record.specs.declared.Record.{Record}
-use Rattle.record.specs.Layout.{wordFrom, floatFrom, recordFrom, recordAt, laid, written}
+use Rattle.words.specs.Words.{wordFrom, floatFrom}
+use Rattle.record.specs.Layout.{recordFrom, recordAt, laid, written}
 use Rattle.record.specs.Readable.{readable}
 use Rattle.record.proofs.LayoutLaws.{length-written, laid-first}
 use Rattle.record.proofs.RoundTrip.{recordAt-laid}
@@ -25,10 +27,10 @@ use Rattle.alp.specs.Detect.{Outcome, detectOf}
 use Rattle.alp.specs.Refusals.{applies}
 use Rattle.alp.specs.declared.Answer.the-variants.{Found}
 use Rattle.alp.proofs.RefusalsLaws.{found-none}
-use Rattle.join.specs.Join.{firstBad, unless, joinChecks, joined, joinOf}
+use Rattle.tables.specs.Refusal.{unless}
+use Rattle.join.specs.Join.{firstBad, joinChecks, joined, joinOf}
 use Rattle.demands.specs.List.{StandsAt}
 use Rattle.demands.specs.Joined.{Joins}
-use Rattle.demands.proofs.Tests.{either-false}
 use Rattle.demands.proofs.Accepted.{join-accepts}
 use Rattle.demands.proofs.Answers.{answered}
 use Rattle.demands.proofs.Held.{list-held}
@@ -159,7 +161,7 @@ module _ (s : Set) (th : Thresholds) (rows cols octave : ℕ) (l0 l1 l2 l3 : Lis
   unfolding applies
   output-joined n h =
       let none = found-none s th rows cols octave l0 l1 l2 l3 out n h in
-      let sides = either-false (ltb 4096 rows) (ltb 4096 cols) (none Size) in
+      let sides = neither (ltb 4096 rows) (ltb 4096 cols) (none Size) in
       let is-good : good s ≡ true = not-false (good s) (none BadSet) in
       let m : Maps = mapsOf l0 l1 l2 l3 (record { rows = rows; cols = cols; octave = octave }) s th in
       let wrote : after .buffer ≡ laid found out = unfold detectOf in ap (λ (o : Outcome). o .buffer) (answered _ m out n h) in

@@ -1,5 +1,4 @@
 -- The theorems on detection's list: Listed, Accepted, Held, NotFinite, Samples, Clear, TwoMaps, Answers and Joined; the other modules serve them.
-pub mod Tests
 pub mod NotFinite
 pub mod Ring
 pub mod Samples

@@ -3,13 +3,12 @@ use Prim.Native.Nat.{ℕ, _+_, _-_, _≤_}
 use native.Mathlib.Omega.{arith}
 use native.Mathlib.Nat.{eq-or-lt-of-le, eq-zero-or-pos}
 use mathlib.Core.Path.{_≡_, subst}
-use mathlib.Core.Bool.{true, not, _&&_}
+use mathlib.Core.Bool.{true, not, _&&_, and-false}
 use mathlib.Core.Logic.{_⊎_, ⊎-elim, inl, inr}
 use lib.Dec.{leb, eqb}
 use borrow.Author.Tests.{leb-true, le-leb, eq-eqb, eqb-false, ne-eqb}
+use Rattle.float.proofs.Bools.{both, second-false}
 use Rattle.demands.specs.TwoMaps.{off, of21, Cross}
-use Rattle.fit.proofs.Finite.{and-true}
-use Rattle.demands.proofs.Tests.{and-false, second-false}
 
 -- ---- the 21 by cases
 
@@ -17,8 +16,8 @@ use Rattle.demands.proofs.Tests.{and-false, second-false}
 pub in-middle : (row col r c : ℕ) → of21 row col r c ≡ true → ((off row r ≤ 1) × (off col c ≤ 2)) ⊎ ((off row r ≤ 2) × (off col c ≤ 1))
 unfolding of21
 in-middle row col r c h =
-    let p = and-true (leb (off row r) 2 && leb (off col c) 2) (not (eqb (off row r) 2 && eqb (off col c) 2)) h in
-    let q = and-true (leb (off row r) 2) (leb (off col c) 2) (p .0) in
+    let p = both (leb (off row r) 2 && leb (off col c) 2) (not (eqb (off row r) 2 && eqb (off col c) 2)) h in
+    let q = both (leb (off row r) 2) (leb (off col c) 2) (p .0) in
     let near-row : off row r ≤ 2 = leb-true (off row r) 2 (q .0) in
     let near-col : off col c ≤ 2 = leb-true (off col c) 2 (q .1) in
     ⊎-elim

@@ -3,7 +3,7 @@ use Prim.Native.Nat.{ℕ, zero, suc, _+_, _-_, _*_, _/_, _%_, _≤_, _<_}
 use native.Mathlib.Omega.{arith}
 use native.Mathlib.Nat.{eq-or-lt-of-le}
 use mathlib.Core.Path.{_≡_, refl, subst}
-use mathlib.Core.Bool.{true, _&&_}
+use mathlib.Core.Bool.{true}
 use mathlib.Core.Logic.{⊎-elim}
 use mathlib.Core.List.{List}
 use lib.ListN.{getD}
@@ -15,7 +15,7 @@ use Rattle.pixel.specs.declared.Frame.{Frame}
 use Rattle.pixel.specs.Verdict.{wholePlace, wholeOf}
 use Rattle.alp.specs.Level.{Maps, mapsOf, samplesOf, samplesAt, placesOf, nineAt}
 use Rattle.demands.specs.TwoMaps.{of21, Same, finites, Cross}
-use Rattle.fit.proofs.Finite.{and-true}
+use Rattle.float.proofs.Bools.{both, all-four}
 use Rattle.demands.proofs.NotFinite.{sample-finite, sample-same}
 use Rattle.demands.proofs.Ring.{ring, crosses}
 
@@ -31,10 +31,8 @@ record Four (l : List Float) : Type 0 where
 four : (l : List Float) → wholePlace l ≡ true → Four l
 unfolding wholePlace
 four l h =
-    let p = and-true (finite (getD l 0 nan) && finite (getD l 1 nan) && finite (getD l 2 nan)) (finite (getD l 3 nan)) h in
-    let q = and-true (finite (getD l 0 nan) && finite (getD l 1 nan)) (finite (getD l 2 nan)) (p .0) in
-    let k = and-true (finite (getD l 0 nan)) (finite (getD l 1 nan)) (q .0) in
-    record { s0 = k .0; s1 = k .1; s2 = q .1; s3 = p .1 }
+    let p = all-four (finite (getD l 0 nan)) (finite (getD l 1 nan)) (finite (getD l 2 nan)) (finite (getD l 3 nan)) h in
+    record { s0 = p .0; s1 = p .1; s2 = p .2; s3 = p .3 }
 
 place-finite : (m : Maps) (row col : ℕ) → Four (samplesAt m row col) → Cross (λ r c. finites m r c ≡ true) row col
 unfolding samplesOf finites
@@ -63,7 +61,7 @@ module _ (samples : ℕ → ℕ → List Float) (row col : ℕ) where
   whole-at zero i k p q h = let z : ⊥ = omega arith in absurd z
   whole-at (suc n) i k p q h =
       let l : List Float = samples (row + i / 3 - 1) (col + i % 3 - 1) in
-      let t = and-true (wholePlace l) _ h in
+      let t = both (wholePlace l) _ h in
       ⊎-elim (λ e. subst (λ (x : ℕ). Four (samples (row + x / 3 - 1) (col + x % 3 - 1))) e (four l (t .0)))
       (λ g. whole-at n (suc i) k g (omega arith) (t .1))
       (eq-or-lt-of-le p)

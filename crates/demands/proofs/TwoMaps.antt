@@ -16,8 +16,8 @@ use Rattle.pixel.specs.Verdict.{wholeOf}
 use Rattle.alp.specs.Level.{Maps, mapsOf, nineAt}
 use Rattle.alp.specs.Due.{judgeOf, listed, pixelDue, rowDue, rowsDue, due}
 use Rattle.demands.specs.List.{Judged}
-use Rattle.demands.specs.TwoMaps.{of21, clear, spared, keep, Same, Lossy, finites}
-use Rattle.demands.proofs.Tests.{false-unless, not-true-and-false}
+use Rattle.demands.specs.TwoMaps.{of21, clear, spared, keep, Same, Lossy}
+use Rattle.float.proofs.Bools.{contrary, excluded}
 use Rattle.demands.proofs.Samples.{nine-finite, nine-same}
 use Rattle.demands.proofs.Judge.{judged-key, judged-nothing}
 use Rattle.demands.proofs.Ring.{near-both}
@@ -65,17 +65,17 @@ module _ (lost : ℕ → ℕ → Bool) (f : Frame) (s : Set) (th : Thresholds) (
     not-lost whole r c on =
         let near = near-both row col r c on in
         let there = nine-finite B row col (omega arith) (omega arith) whole r c on in
-        false-unless (lost r c) (λ gone. not-true-and-false (finites B r c) there (h .gone r c (omega arith) (omega arith) gone))
+        excluded (λ gone. h .gone r c (omega arith) (omega arith) gone) there
 
     judged-none : clear lost row col ≡ false → (isMax : Bool) → judgeOf B row col isMax ≡ Nothing
     judged-none t isMax =
         judged-nothing B row col isMax
-        (false-unless (wholeOf (nineAt B row col)) (λ whole. not-true-and-false (clear lost row col) (clear-is lost row col .1 (not-lost whole)) t))
+        (contrary (λ whole. clear-is lost row col .1 (not-lost whole)) t)
 
     -- A lost pixel among a spot's 21 strikes it: the second map lists nothing there.
     pub inside-strikes : (r c : ℕ) → of21 row col r c ≡ true → lost r c ≡ true → (isMax : Bool) → judgeOf B row col isMax ≡ Nothing
     inside-strikes r c on gone =
-        judged-none (false-unless (clear lost row col) (λ t. not-true-and-false (lost r c) gone (clear-is lost row col .0 t r c on)))
+        judged-none (excluded (λ t. clear-is lost row col .0 t r c on) gone)
 
     spared-here : (r : Record) → r .key ≡ row * f .cols + col → spared lost (f .cols) r ≡ clear lost row col
     unfolding spared

@@ -1,7 +1,7 @@
 -- The two envelopes are equal: at every cubic, all sigmas and any two end samples, and so at every table and any four samples. Assumes nothing.
 use mathlib.Core.Path.{_≡_, refl, sym, _∙_, ap}
 use mathlib.Core.List.{List}
-use mathlib.Core.Bool.{Bool, true, false, cond, not, _&&_}
+use mathlib.Core.Bool.{Bool, true, false, false≢true, cond, not, _&&_, and-false}
 use Prim.Native.Nat.{ℕ, _+_, _*_, _^_, _<_}
 use native.Mathlib.Omega.{arith}
 use lib.Dec.{ltb}
@@ -16,9 +16,6 @@ use Rattle.fit.specs.declared.Envelope.{Envelope}
 
 -- ---- signs
 
-no : {A : Type 0} → _≡_ {A = Bool} false true → A
-no e = let z : _≡_ {A = ℕ} 0 1 = cc in absurd (omega arith)
-
 -- what is larger than 1e-6 is not zero
 some : (n d : ℕ) → ltb (8796093 * 1 * d) (n * 2 ^ 43) ≡ true → 0 < n
 some n d h = omega (arith, ltb-true (8796093 * 1 * d) (n * 2 ^ 43) h)
@@ -26,7 +23,7 @@ some n d h = omega (arith, ltb-true (8796093 * 1 * d) (n * 2 ^ 43) h)
 -- a number larger than 1e-6 in size is below zero exactly where it is not above it
 signs : (x : Float) → lt f1e-6 (absOf x) ≡ true → lt x f0 ≡ not (lt f0 x)
 unfolding lt ofBits absOf
-signs nan h = no h
+signs nan h = absurd (false≢true h)
 signs (inf true) h = refl
 signs (inf false) h = refl
 signs (fin true m e) h = let p = some (m * up e) (down e) h in lt-ltb 0 (m * up e * 1 + 0 * 1 * down e) (omega arith)
@@ -37,17 +34,13 @@ signs (fin false m e) h =
 -- a number above zero is the larger of the two
 above-zero : (x : Float) → lt f0 x ≡ true → maxOf x f0 ≡ x
 unfolding maxOf isNan lt ofBits
-above-zero nan h = no h
-above-zero (inf true) h = no h
+above-zero nan h = absurd (false≢true h)
+above-zero (inf true) h = absurd (false≢true h)
 above-zero (inf false) h = refl
-above-zero (fin true m e) h = no h
+above-zero (fin true m e) h = absurd (false≢true h)
 above-zero (fin false m e) h = rw (le-ltb (m * up e * 1) (0 * 1 * down e) (omega arith))
 
 -- ---- tests
-
-never : (x h : Bool) → (x && false && h) ≡ false
-never true h = refl
-never false h = refl
 
 -- the streaming pass and the reference ask the same, in another order
 reordered : (i v c p l : Bool) → (i && v && c && p && true && l) ≡ (i && c && p && v && l)
@@ -87,18 +80,18 @@ module _ (k g : List Float) (s : Float) (e : Envelope) where
 
   turn-low : turnOf k s (within (g at 0) (g at 3) s) true e ≡ loweredOf k g s e
   unfolding turnOf loweredOf putHigh
-  turn-low = rw (never, reordered)
+  turn-low = rw (and-false, reordered)
 
   turn-high : turnOf k s (within (g at 0) (g at 3) s) false e ≡ raisedOf k g s e
   unfolding turnOf raisedOf putLow
-  turn-high = rw (never, reordered)
+  turn-high = rw (and-false, reordered)
 
   turn-single : lt (k at 1) f0 ≡ not (lt f0 (k at 1)) → turnOf k s (within (g at 0) (g at 3) s) (lt f0 (k at 1)) e ≡ singleOf k g s e
   unfolding turnOf singleOf putHigh putLow
   turn-single h = by (lt f0 (k at 1)) refl where
     by : (t : Bool) → lt f0 (k at 1) ≡ t → turnOf k s (within (g at 0) (g at 3) s) (lt f0 (k at 1)) e ≡ singleOf k g s e
-    by true p = rw (h, p) (rw (never, low-in-steps))
-    by false p = rw (h, p) (rw (never, high-in-steps))
+    by true p = rw (h, p) (rw (and-false, low-in-steps))
+    by false p = rw (h, p) (rw (and-false, high-in-steps))
 
 -- ---- the whole
 

@@ -1,37 +1,29 @@
 -- What is not finite in a cubic's extreme over a band. Assumes nothing.
 use mathlib.Core.Path.{_≡_, refl}
 use mathlib.Core.List.{List}
-use mathlib.Core.Bool.{Bool, true, false, _&&_}
+use mathlib.Core.Bool.{Bool, true, false}
 use Prim.Native.Nat.{ℕ, zero, suc, _<_}
 use native.Mathlib.Omega.{arith}
 use lib.Ieee.{Float, nan, inf, fin, mul, lt, isNan}
 use Rattle.float.specs.Small.{finite, maxOf}
 use Rattle.float.specs.Num.{_⊗_}
+use Rattle.float.proofs.Bools.{all-four, contrary}
 use Rattle.fit.specs.Cubic.{_at_, coeffsOf, hornerOf}
 use Rattle.fit.specs.Prims.{ours}
 use Rattle.fit.specs.Band.{finiteCubic, signOf, stationaryOf, betterBy, extremeBy, extremeOf}
-use Rattle.fit.proofs.Finite.{Whole, contrary, and-true}
+use Rattle.fit.proofs.Finite.{Whole}
 use Rattle.fit.proofs.CubicLaws.{lost-sample-no-coefficient}
 
 -- the test of a cubic asks for each coefficient
 whole-cubic : (k : List Float) → finiteCubic k ≡ true → Whole k
 unfolding finiteCubic
-whole-cubic k h = pick where
-  three : ((finite (k at 0) && finite (k at 1) && finite (k at 2)) ≡ true) × (finite (k at 3) ≡ true)
-  three = and-true _ _ h
-
-  two : ((finite (k at 0) && finite (k at 1)) ≡ true) × (finite (k at 2) ≡ true)
-  two = and-true _ _ (three .0)
-
-  one : (finite (k at 0) ≡ true) × (finite (k at 1) ≡ true)
-  one = and-true _ _ (two .0)
-
-  pick : Whole k
-  pick zero g = one .0
-  pick (suc zero) g = one .1
-  pick (suc (suc zero)) g = two .1
-  pick (suc (suc (suc zero))) g = three .1
-  pick (suc (suc (suc (suc n)))) g = absurd (omega arith)
+whole-cubic k h = pick (all-four (finite (k at 0)) (finite (k at 1)) (finite (k at 2)) (finite (k at 3)) h) where
+  pick : (finite (k at 0) ≡ true) × (finite (k at 1) ≡ true) × (finite (k at 2) ≡ true) × (finite (k at 3) ≡ true) → Whole k
+  pick p zero g = p .0
+  pick p (suc zero) g = p .1
+  pick p (suc (suc zero)) g = p .2
+  pick p (suc (suc (suc zero))) g = p .3
+  pick p (suc (suc (suc (suc n)))) g = absurd (omega arith)
 
 -- a coefficient that is not finite makes the extreme NaN, whatever the band
 pub lost-coefficient-no-extreme : (k : List Float) (i : ℕ) → i < 4 → finite (k at i) ≡ false →

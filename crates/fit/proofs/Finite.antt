@@ -1,7 +1,7 @@
 -- The result of an operation is finite only where its operands are. Assumes nothing.
 use mathlib.Core.Path.{_≡_, refl, sym, _∙_}
 use mathlib.Core.List.{List}
-use mathlib.Core.Bool.{Bool, true, false, cond, _&&_}
+use mathlib.Core.Bool.{Bool, true, false, cond}
 use Prim.Native.Nat.{ℕ, _<_}
 use lib.Dec.{eqb}
 use lib.Ieee.{Float, nan, inf, fin, add, sub, mul, neg}
@@ -12,15 +12,6 @@ use Rattle.fit.specs.Cubic.{_at_}
 -- the first four of a list are finite
 abbrev pub Whole : List Float → Type 0
 Whole l = (j : ℕ) → j < 4 → finite (l at j) ≡ true
-
-pub and-true : (a b : Bool) → (a && b) ≡ true → (a ≡ true) × (b ≡ true)
-and-true true b h = (refl, h)
-and-true false b h = (cc, cc)
-
--- a test that holds only where another does fails where that one fails
-pub contrary : {a b : Bool} → (a ≡ true → b ≡ true) → b ≡ false → a ≡ false
-contrary {a = true} f h = let z = f refl in cc
-contrary {a = false} f h = refl
 
 neither : (b : Bool) (x y : Float) → finite x ≡ false → finite y ≡ false → finite (cond b x y) ≡ false
 neither true x y p q = p

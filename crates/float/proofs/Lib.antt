@@ -1,4 +1,5 @@
 mod Newton
+pub mod Bools
 pub mod Floats
 pub mod Order
 pub mod Patterns

@@ -14,7 +14,7 @@ use Rattle.tables.specs.declared.Checked.the-variants.{Fine}
 use Rattle.record.specs.Layout.{recordAt}
 use Rattle.record.specs.Readable.{readable}
 use Rattle.join.specs.Join.{firstBad, badOf, joinChecks}
-use Rattle.join.proofs.FirstLaws.{unless-fine}
+use Rattle.tables.proofs.RefusalLaws.{unless-fine}
 
 -- ---- the first bad record
 

@@ -20,7 +20,8 @@ use Rattle.tables.specs.declared.Checked.{Checked}
 use Rattle.tables.specs.declared.Checked.the-variants.{Fine, Bad}
 use Rattle.tables.proofs.SetLaws.{every-or-default}
 use Rattle.record.specs.declared.Record.{Record}
-use Rattle.record.specs.Layout.{floatBytes, recordBytes, recordAt}
+use Rattle.words.specs.Words.{floatBytes}
+use Rattle.record.specs.Layout.{recordBytes, recordAt}
 use Rattle.record.proofs.LayoutLaws.{length-recordBytes}
 use Rattle.record.proofs.ReadableLaws.{readable-parts}
 use Rattle.record.proofs.Converse as converse

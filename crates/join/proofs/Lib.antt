@@ -1,5 +1,4 @@
 -- What the proofs cite, and what the join's promise settles.
-pub mod FirstLaws
 pub mod CheckLaws
 pub mod SizedLaws
 pub mod JoinLaws

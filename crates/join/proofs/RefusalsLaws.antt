@@ -9,21 +9,20 @@ use lib.ListN.{length, getD, drop}
 use lib.Seq.{length-sets, drop-at, getD-drop}
 use lib.Dec.{ltb, eqb}
 use borrow.Author.Tests.{ltb-true, eqb-true, eqb-false, eq-eqb}
-use Rattle.tables.specs.Refusal.{number}
+use Rattle.tables.specs.Refusal.{number, unless, firstOf, Among, risesAbove}
 use Rattle.tables.specs.declared.Set.{Set}
 use Rattle.tables.specs.declared.Refusal.{Refusal}
 use Rattle.tables.specs.declared.Refusal.the-variants.{Size, Level, Octave, BadSet, Records, Room, NoSize}
 use Rattle.tables.specs.declared.Checked.{Checked}
 use Rattle.tables.specs.declared.Checked.the-variants.{Fine, Bad}
-use Rattle.join.specs.Join.{badOf, unless, recordsOf, sizedAll, laidSized, joinChecks, Outcome, outcome, joined, joinOf}
-use Rattle.join.specs.First.{firstOf, Among, risesAbove}
+use Rattle.join.specs.Join.{badOf, recordsOf, sizedAll, laidSized, joinChecks, Outcome, outcome, joined, joinOf}
 use Rattle.join.specs.Refusals.{badList, badIndex, applies, refusals}
 use Rattle.join.specs.Claims.{WrongLength, FirstBad}
 use Rattle.join.specs.declared.Joined.{Joined}
 use Rattle.join.specs.declared.Joined.the-variants.{Count, Refused}
 use Rattle.join.proofs.CheckLaws.{fair-before, bad-unfair, checks-passed}
 use Rattle.join.proofs.SizedLaws.{length-all, stored-laid}
-use Rattle.join.proofs.FirstLaws.{unless-or, first-holds, first-before, first-fine, none-fine, only-listed}
+use Rattle.tables.proofs.RefusalLaws.{unless-or, first-holds, first-before, first-fine, none-fine, only-listed}
 
 -- ---- over the outcome of the checks
 

@@ -9,9 +9,11 @@ use lib.Seq.{sets, sets-eq}
 use lib.Ieee.{Float}
 use Rattle.tables.specs.declared.Set.{Set}
 use Rattle.record.specs.declared.Record.{Record}
-use Rattle.record.specs.Layout.{floatBytes, recordBytes, recordAt}
-use Rattle.record.proofs.Stores.{sets-append}
-use Rattle.record.proofs.LayoutLaws.{length-floatBytes, length-recordBytes}
+use Rattle.words.specs.Words.{floatBytes}
+use Rattle.record.specs.Layout.{recordBytes, recordAt}
+use Rattle.words.proofs.Stores.{sets-append}
+use Rattle.words.proofs.WordsLaws.{length-floatBytes}
+use Rattle.record.proofs.LayoutLaws.{length-recordBytes}
 use Rattle.size.specs.declared.Corrected.{Corrected}
 use Rattle.join.specs.declared.Home.{Home}
 use Rattle.join.specs.Sized.{sigmaOf, acceptedOf, sizeOf, homeOf, halfBytes, tailBytes, sizedBytes}

@@ -1,14 +1,14 @@
 -- What the join answers, and what it leaves in the buffer, as one value of its input. Definitions only.
 use Prim.Native.Nat.{ℕ, zero, suc, _*_, _/_, _%_, _≤_, _<_}
-use mathlib.Core.Bool.{Bool, true, false, not, cond}
+use mathlib.Core.Bool.{not, cond}
 use mathlib.Core.List.{List, [], _∷_, _++_}
 use lib.ListN.{length, drop}
 use lib.Dec.{ltb, eqb}
 use Rattle.tables.specs.declared.Set.{Set}
-use Rattle.tables.specs.declared.Refusal.{Refusal}
 use Rattle.tables.specs.declared.Refusal.the-variants.{Size, BadSet, Records, Room}
 use Rattle.tables.specs.declared.Checked.{Checked}
 use Rattle.tables.specs.declared.Checked.the-variants.{Fine, Bad}
+use Rattle.tables.specs.Refusal.{unless}
 use Rattle.tables.specs.Set.{good}
 use Rattle.record.specs.declared.Record.{Record}
 use Rattle.record.specs.Layout.{recordAt}
@@ -34,11 +34,6 @@ firstBad rows cols b (suc n) i = cond (readable rows cols (recordAt b i)) (first
 -- the index of a list's first bad record; their number where none is
 abbrev pub badOf : ℕ → ℕ → List ℕ → ℕ
 badOf rows cols b = firstBad rows cols b (length b / 40) 0
-
--- refuse r where the test holds, and look further otherwise
-unfoldable pub unless : Bool → Refusal → Checked → Checked
-unless true r next = Bad r
-unless false r next = next
 
 -- the join's checks in their order: 1, 4, 5, 6; the length of the list is looked at before its records
 unfoldable pub joinChecks : Set → ℕ → ℕ → List ℕ → ℕ → Checked

@@ -6,7 +6,8 @@ use lib.Ieee.{Float}
 use Rattle.float.specs.Num.{f0}
 use Rattle.tables.specs.declared.Set.{Set}
 use Rattle.record.specs.declared.Record.{Record}
-use Rattle.record.specs.Layout.{floatBytes, recordBytes}
+use Rattle.words.specs.Words.{floatBytes}
+use Rattle.record.specs.Layout.{recordBytes}
 use Rattle.size.specs.Correct.{correctedOf}
 use Rattle.size.specs.declared.Corrected.{Corrected}
 use Rattle.size.specs.declared.Corrected.the-variants.{Sigma, NoSize}

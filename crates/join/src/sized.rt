@@ -74,10 +74,10 @@ fn put_tail(out: &mut [u8], at: usize, size: Corrected, home: Home)
     requires { ⌜ (home .row < 2 ^ 16) × (home .col < 2 ^ 16) ⌝ }
     ensures { λ _. ⌜ now (out .exit) ≡ sets (now (out .entry)) at (tailBytes size home) ⌝ }
 {
-    record::put_float(out, at, sigma_of(size));
+    words::put_float(out, at, sigma_of(size));
     put_half(out, at + 4, home.row);
     put_half(out, at + 6, home.col);
-    record::put_bytes(out, at + 8, accepted_of(size), 0, 0, 0);
+    words::put_bytes(out, at + 8, accepted_of(size), 0, 0, 0);
 }
 
 // A record's 52 bytes from the byte at on.

@@ -3,8 +3,7 @@ use Prim.Native.Nat.{ℕ, zero, suc, _+_, _*_, _≤_, _<_}
 use native.Mathlib.Nat.{mul-le-mul, mul-le-mul-right}
 use native.Mathlib.Numerals.{add-one}
 use native.Mathlib.Omega.{arith}
-use mathlib.Core.Bool.{Bool, true, false, not}
-use mathlib.Core.Path.{_≡_, refl, sym, _∙_}
+use mathlib.Core.Path.{_≡_}
 use mathlib.Core.List.{List, [], _∷_, _++_}
 use lib.ListN.{length, take, set}
 use lib.Seq.{take-suc-set}
@@ -13,11 +12,10 @@ use lib.Ieee.{Float}
 use borrow.Author.Tests.{ltb-false, eqb-true, not-false}
 use Rattle.tables.specs.declared.Set.{Set}
 use Rattle.tables.specs.declared.Thresholds.{Thresholds}
-use Rattle.tables.specs.declared.Refusal.{Refusal}
-use Rattle.tables.specs.declared.Checked.{Checked}
 use Rattle.tables.specs.declared.Checked.the-variants.{Fine}
-use Rattle.record.specs.Layout.{floatFrom}
-use Rattle.alp.specs.Detect.{unless, detectOf}
+use Rattle.tables.proofs.RefusalLaws.{unless-fine}
+use Rattle.words.specs.Words.{floatFrom}
+use Rattle.alp.specs.Detect.{detectOf}
 use Rattle.lister.specs.Input.{setFrom, thresholdsFrom, rowsFrom, colsFrom, octaveFrom, areaFrom, floatsFrom, levelFrom, listChecks, detectFrom}
 
 -- one float more, read into its place
@@ -25,11 +23,6 @@ pub floats-next : (b : List ℕ) (at k : ℕ) (floats : List Float) → k < leng
     → take (k + 1) (set floats k (floatFrom b (at + 4 * k))) ≡ floatsFrom (k + 1) b at
 unfolding floatsFrom
 floats-next b at k floats h e = rw (add-one, take-suc-set, e)
-
-unless-fine : (b : Bool) (r : Refusal) (next : Checked) → unless b r next ≡ Fine → (b ≡ false) × (next ≡ Fine)
-unfolding unless
-unless-fine true r next h = (cc, cc)
-unless-fine false r next h = (refl, h)
 
 -- what no check of the input refuses
 pub record Tile (b : List ℕ) : Type 0 where

@@ -9,11 +9,11 @@ use borrow.Author.Tests.{lt-ltb, le-ltb, ne-eqb}
 use Rattle.io.specs.Counts.{Counts}
 use Rattle.tables.specs.declared.Refusal.{Refusal}
 use Rattle.tables.specs.declared.Checked.the-variants.{Fine}
-use Rattle.tables.specs.Refusal.{number}
+use Rattle.tables.specs.Refusal.{number, unless}
 use Rattle.record.specs.declared.Record.{Record}
 use Rattle.record.specs.Layout.{bytesOf, written}
 use Rattle.alp.specs.Due.{due}
-use Rattle.alp.specs.Detect.{Outcome, outcome, unless}
+use Rattle.alp.specs.Detect.{Outcome, outcome}
 use Rattle.alp.specs.declared.Answer.{Answer}
 use Rattle.alp.specs.declared.Answer.the-variants.{Found, Refused}
 use Rattle.alp.proofs.Promise.{answer-same, first-written}

@@ -10,10 +10,10 @@ use Rattle.tables.specs.declared.Thresholds.{Thresholds}
 use Rattle.tables.specs.declared.Refusal.the-variants.{Size, Level}
 use Rattle.tables.specs.declared.Checked.{Checked}
 use Rattle.tables.specs.declared.Checked.the-variants.{Fine}
-use Rattle.tables.specs.Refusal.{readSetOf}
-use Rattle.record.specs.Layout.{wordFrom, floatFrom}
+use Rattle.tables.specs.Refusal.{unless, readSetOf}
+use Rattle.words.specs.Words.{wordFrom, floatFrom}
 use Rattle.alp.specs.Level.{Maps, mapsOf}
-use Rattle.alp.specs.Detect.{Outcome, unless, detectOf}
+use Rattle.alp.specs.Detect.{Outcome, detectOf}
 
 -- the set, in the first 528 bytes
 abbrev pub setFrom : List ℕ → Set

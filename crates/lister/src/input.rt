@@ -4,7 +4,7 @@ ghost use Prim.Native.Nat.{_+_, _*_, _<_, _≤_};
 ghost use lib.ListN.{length, take};
 ghost use Rattle.tables.specs.declared.Checked.the-variants.{Fine};
 ghost use Rattle.alp.specs.Detect.{outcome};
-ghost use Rattle.record.specs.Layout.{wordFrom};
+ghost use Rattle.words.specs.Words.{wordFrom};
 ghost use Rattle.lister.specs.Input.{setFrom, thresholdsFrom, areaFrom, floatsFrom, levelFrom, listChecks, detectFrom};
 use alp::Answer;
 use tables::Checked;
@@ -17,7 +17,7 @@ fn count_from(input: &[u8], at: usize) -> usize
     requires { ⌜ at + 4 ≤ length (now input) ⌝ }
     ensures { λ r. ⌜ r ≡ wordFrom (now (input .entry)) at ⌝ }
 {
-    record::word_from(input, at) as usize
+    words::word_from(input, at) as usize
 }
 
 // How long the input of a tile is: its header, and four levels.
@@ -65,11 +65,11 @@ fn thresholds_from(input: &[u8]) -> Thresholds
     ensures { λ r. ⌜ r ≡ thresholdsFrom (now (input .entry)) ⌝ }
 {
     Thresholds {
-        peak: record::float_from(input, 528),
-        sigma: record::float_from(input, 532),
-        ratio: record::float_from(input, 536),
-        low: record::float_from(input, 540),
-        high: record::float_from(input, 544),
+        peak: words::float_from(input, 528),
+        sigma: words::float_from(input, 532),
+        ratio: words::float_from(input, 536),
+        low: words::float_from(input, 540),
+        high: words::float_from(input, 544),
     }
 }
 
@@ -82,7 +82,7 @@ fn floats_from(input: &[u8], at: usize, n: usize) -> [f32; 3600]
     let mut floats = [0.0f32; 3600];
     let mut k: usize = 0;
     while k < n {
-        floats[k] = record::float_from(input, at + 4 * k);
+        floats[k] = words::float_from(input, at + 4 * k);
         k += 1;
     }
     floats

@@ -31,7 +31,7 @@ fn list_tile(input: &[u8], out: &mut [u8; 129640]) -> usize
             let end = text::put_lines(out, 0, &records, printed);
             text::put_found(out, end, count)
         }
-        Answer::Refused(why) => text::put_refused(out, 0, refusals::number_of(why) as u8),
+        Answer::Refused(why) => text::put_refused(out, 0, tables::refusals::number_of(why) as u8),
     }
 }
 
@@ -42,7 +42,7 @@ pub fn list(input: &[u8], out: &mut [u8; 129640]) -> usize
 {
     let check = input::checked(input);
     match check {
-        Checked::Bad(why) => text::put_refused(out, 0, refusals::number_of(why) as u8),
+        Checked::Bad(why) => text::put_refused(out, 0, tables::refusals::number_of(why) as u8),
         Checked::Fine => list_tile(input, out),
     }
 }

@@ -1,7 +1,7 @@
 -- A pixel's own gates: what fails them, and the same by the envelope of branches.
 use mathlib.Core.Path.{_≡_, refl}
 use mathlib.Core.List.{List, [], _∷_}
-use mathlib.Core.Bool.{Bool, true, false, _&&_, _||_}
+use mathlib.Core.Bool.{Bool, true, false, _&&_, _||_, and-false}
 use lib.Ieee.{Float, lt, isNan}
 use Rattle.float.specs.Small.{minOf, maxOf}
 use Rattle.tables.specs.declared.Set.{Set}
@@ -16,7 +16,6 @@ use Rattle.fit.proofs.Agree.{envelopes-agree}
 use Rattle.pixel.specs.Gate.{sigmaOf, peakOf, strongOf, curvedOf, gateBy, ownGateBy, ownGateOf}
 use Rattle.pixel.specs.Verdict.{cubicsOf, mayList}
 use Rattle.pixel.specs.Rules.{ownSamples, ownCubic, ownSigma, ownPeak}
-use Rattle.pixel.proofs.Tests.{and-false}
 
 -- where no inner level owns the extremum the gates fail
 pub unowned-fails : (th : Thresholds) (l k : List Float) (sigma peak : Float) (isMax : Bool) → ownsOf l isMax ≡ false → gateBy ours th l k sigma peak isMax ≡ false

@@ -2,7 +2,7 @@
 use Prim.Native.Nat.{ℕ, _+_, _*_}
 use mathlib.Core.Path.{_≡_}
 use mathlib.Core.List.{List}
-use mathlib.Core.Bool.{Bool, true, false, _&&_}
+use mathlib.Core.Bool.{Bool, true, false, _&&_, and-false, and-assoc}
 use lib.Ieee.{Float}
 use Rattle.tables.specs.declared.Set.{Set}
 use Rattle.tables.specs.declared.Thresholds.{Thresholds}
@@ -17,7 +17,6 @@ use Rattle.pixel.specs.Verdict.{wholeOf, anchorOf, admitOf, verdictBy, v
 use Rattle.pixel.specs.Rules.{cubicsAt, ownSamples, ownCubic, ownSigma, ownPeak}
 use Rattle.pixel.specs.declared.Frame.{Frame}
 use Rattle.pixel.specs.declared.Verdict.the-variants.{Nothing}
-use Rattle.pixel.proofs.Tests.{and-false, and-assoc}
 use Rattle.pixel.proofs.GateLaws.{unowned-fails}
 
 -- the gates pass, and the peak beats the eight neighbours

@@ -1,5 +1,4 @@
 -- Laws of the judgement of one pixel.
-mod Tests
 mod NineLaws
 mod JudgeSteps
 pub mod GateLaws

@@ -1,11 +1,10 @@
 -- One place more: what the loops over the nine places add at each turn.
 use mathlib.Core.Path.{_≡_, refl, sym, _∙_, ap}
 use mathlib.Core.List.{List, [], _∷_, _++_}
-use mathlib.Core.Bool.{Bool, _&&_}
+use mathlib.Core.Bool.{Bool, _&&_, and-true, and-assoc}
 use lib.Ieee.{Float}
 use Rattle.fit.specs.Cubic.{coeffsOf}
 use Rattle.pixel.specs.Verdict.{cubicsOf, wholePlace, wholeOf}
-use Rattle.pixel.proofs.Tests.{and-true, and-assoc}
 
 pub cubics-snoc : (t : List Float) (ls : List (List Float)) (l : List Float) → cubicsOf t (ls ++ (l ∷ [])) ≡ cubicsOf t ls ++ (coeffsOf t l ∷ [])
 unfolding cubicsOf

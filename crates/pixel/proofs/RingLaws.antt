@@ -1,12 +1,11 @@
 -- A test of every index holds exactly where it holds at each.
 use mathlib.Core.Path.{_≡_, refl, _∙_, ap}
-use mathlib.Core.Bool.{Bool, true, false}
+use mathlib.Core.Bool.{Bool, true, false, and-false}
 use Prim.Native.Nat.{ℕ, suc, zero, _+_, _<_, suc-le-suc}
 use native.Mathlib.Nat.{not-suc-le-zero, le-of-suc-le-suc}
 use native.Mathlib.Omega.{arith}
-use Rattle.fit.proofs.Finite.{and-true}
+use Rattle.float.proofs.Bools.{both}
 use Rattle.pixel.specs.Ring.{allOf}
-use Rattle.pixel.proofs.Tests.{and-false}
 
 module _ (p : ℕ → Bool) where
   all-from : (n i : ℕ) → ((k : ℕ) → k < n → p (i + k) ≡ true) → allOf n i p ≡ true
@@ -27,8 +26,8 @@ module _ (p : ℕ → Bool) where
   each-from : (n i : ℕ) → allOf n i p ≡ true → (k : ℕ) → k < n → p (i + k) ≡ true
   unfolding allOf
   each-from zero i h k b = absurd (not-suc-le-zero b)
-  each-from (suc n) i h zero b = ap p (omega arith) ∙ and-true (p i) (allOf n (suc i) p) h .0
-  each-from (suc n) i h (suc k) b = ap p (omega arith) ∙ each-from n (suc i) (and-true (p i) (allOf n (suc i) p) h .1) k (le-of-suc-le-suc b)
+  each-from (suc n) i h zero b = ap p (omega arith) ∙ both (p i) (allOf n (suc i) p) h .0
+  each-from (suc n) i h (suc k) b = ap p (omega arith) ∙ each-from n (suc i) (both (p i) (allOf n (suc i) p) h .1) k (le-of-suc-le-suc b)
 
   pub all-true : (n : ℕ) → ((k : ℕ) → k < n → p k ≡ true) → allOf n 0 p ≡ true
   all-true n h = all-from n 0 (λ k b. ap p (omega arith) ∙ h k b)

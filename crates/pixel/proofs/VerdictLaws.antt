@@ -2,12 +2,13 @@
 use Prim.Native.Nat.{ℕ, _+_, _*_}
 use mathlib.Core.Path.{_≡_, refl, sym, _∙_, ap, subst}
 use mathlib.Core.List.{List, []}
-use mathlib.Core.Bool.{Bool, true, false, true≢false, false≢true, cond, _||_}
+use mathlib.Core.Bool.{Bool, true, false, true≢false, false≢true, _||_, and-false}
 use lib.Dec.{eqb}
 use lib.ListN.{getD}
 use lib.Ieee.{Float, lt, le}
 use borrow.Author.Tests.{eq-eqb, ne-eqb}
 use Rattle.float.specs.Small.{finite, absOf}
+use Rattle.float.proofs.Bools.{both, neither, passed}
 use Rattle.tables.specs.declared.Set.{Set}
 use Rattle.tables.specs.declared.Thresholds.{Thresholds}
 use Rattle.fit.specs.Prims.{ours}
@@ -17,7 +18,6 @@ use Rattle.fit.specs.Owns.{ownsOf}
 use Rattle.refine.specs.declared.Spot.{Spot}
 use Rattle.refine.specs.declared.Refined.{Refined}
 use Rattle.refine.specs.declared.Refined.the-variants.{Accepted, Rejected}
-use Rattle.fit.proofs.Finite.{and-true}
 use Rattle.refine.proofs.RefineLaws.{accepted-displaced}
 use Rattle.record.specs.Readable.{readable}
 use Rattle.record.specs.declared.Record.{Record}
@@ -26,9 +26,7 @@ use Rattle.pixel.specs.Ring.{beatsBy, ringBy, ringOf}
 use Rattle.pixel.specs.Verdict.{mayList, wholeOf, anchorOf, polarityOf, recordOf, admitOf, verdictBy, verdictOf}
 use Rattle.pixel.specs.Rules.{cubicsAt, ownSamples, ownCubic, ownSigma, ownPeak, ownCurvature, Admits}
 use Rattle.pixel.specs.declared.Frame.{Frame}
-use Rattle.pixel.specs.declared.Verdict.{Verdict}
 use Rattle.pixel.specs.declared.Verdict.the-variants.{Listed, Nothing}
-use Rattle.pixel.proofs.Tests.{and-false, either-false}
 use Rattle.pixel.proofs.GateLaws.{own-gates-fail}
 use Rattle.pixel.proofs.RingLaws.{all-true, all-each}
 
@@ -44,8 +42,8 @@ module _ (s : Set) (th : Thresholds) (f : Frame) (nine : List (List Float)) (row
 own-fails : (s : Set) (th : Thresholds) (nine : List (List Float)) (isMax : Bool) → mayList s th (ownSamples nine) ≡ false →
     gateBy ours th (ownSamples nine) (ownCubic s nine) (ownSigma s nine isMax) (ownPeak s nine isMax) isMax ≡ false
 unfolding mayList
-own-fails s th nine false h = own-gates-fail s th nine false (either-false _ (ownGateOf s th (ownSamples nine) true) h .0)
-own-fails s th nine true h = own-gates-fail s th nine true (either-false (ownGateOf s th (ownSamples nine) false) _ h .1)
+own-fails s th nine false h = own-gates-fail s th nine false (neither _ (ownGateOf s th (ownSamples nine) true) h .0)
+own-fails s th nine true h = own-gates-fail s th nine true (neither (ownGateOf s th (ownSamples nine) false) _ h .1)
 
 -- a pixel whose own gates fail lists nothing
 pub may-not-list : (s : Set) (th : Thresholds) (f : Frame) (nine : List (List Float)) (row col : ℕ) (isMax : Bool) →
@@ -55,9 +53,8 @@ may-not-list s th f nine row col isMax h = rw (own-fails s th nine isMax h, and-
 
 -- ---- what is listed
 
-passed : (b : Bool) (v : Verdict) (r : Record) → cond b v Nothing ≡ Listed r → (b ≡ true) × (v ≡ Listed r)
-passed true v r h = (refl, h)
-passed false v r h = (cc, cc)
+nothing-no-record : (r : Record) → Nothing ≡ Listed r → ⊥
+nothing-no-record r e = let z : false ≡ true = cc in false≢true z
 
 -- what an answer of the refinement comes to, where it is listed
 record Admitted (f : Frame) (l : List Float) (key : ℕ) (answer : Refined) (r : Record) : Type 0 where
@@ -69,7 +66,7 @@ record Admitted (f : Frame) (l : List Float) (key : ℕ) (answer : Refined) (r :
 admitted : (f : Frame) (l : List Float) (key : ℕ) (answer : Refined) (r : Record) → admitOf f l key answer ≡ Listed r → Admitted f l key answer r
 unfolding admitOf
 admitted f l key (Accepted spot) r h =
-    let p = passed (readable (f .rows) (f .cols) (recordOf spot l key)) (Listed (recordOf spot l key)) r h in
+    let p = passed (readable (f .rows) (f .cols) (recordOf spot l key)) (Listed (recordOf spot l key)) Nothing h (nothing-no-record r) in
     let made : r ≡ recordOf spot l key = let e = p .1 in cc in
     record { spot = spot; accepted = refl; made = made; joins = ap (readable (f .rows) (f .cols)) made ∙ p .0 }
 admitted f l key Rejected r h = let z : _≡_ {A = Bool} false true = cc in absurd (false≢true z)
@@ -89,15 +86,15 @@ module _ (s : Set) (th : Thresholds) (f : Frame) (nine : List (List Float)) (row
   pub listed-admits : verdictOf s th f nine row col isMax ≡ Listed r → Admits s th f nine row col isMax r
   unfolding verdictBy gateBy within strongOf curvedOf ringBy beatsBy
   listed-admits h =
-      let tests = passed _ _ r h in
-      let ring = and-true _ _ (tests .0) in
-      let gates = and-true (wholeOf nine) _ (ring .0) in
-      let owner = and-true _ (ownsOf (ownSamples nine) isMax) (gates .1) in
-      let bent = and-true _ (curvedOf th (ownCubic s nine) (ownSigma s nine isMax) isMax) (owner .0) in
-      let strength = and-true _ (strongOf th (ownPeak s nine isMax) isMax) (bent .0) in
-      let window = and-true _ (le (ownSigma s nine isMax) (th .high)) (strength .0) in
-      let size = and-true _ (lt (th .sigma) (absOf (ownCurvature s nine isMax))) (bent .1) in
-      let sign = and-true (finite (ownCurvature s nine isMax)) _ (size .0) in
+      let tests = passed _ _ Nothing h (nothing-no-record r) in
+      let ring = both _ _ (tests .0) in
+      let gates = both (wholeOf nine) _ (ring .0) in
+      let owner = both _ (ownsOf (ownSamples nine) isMax) (gates .1) in
+      let bent = both _ (curvedOf th (ownCubic s nine) (ownSigma s nine isMax) isMax) (owner .0) in
+      let strength = both _ (strongOf th (ownPeak s nine isMax) isMax) (bent .0) in
+      let window = both _ (le (ownSigma s nine isMax) (th .high)) (strength .0) in
+      let size = both _ (lt (th .sigma) (absOf (ownCurvature s nine isMax))) (bent .1) in
+      let sign = both (finite (ownCurvature s nine isMax)) _ (size .0) in
       let join = admitted f (ownSamples nine) (row * f .cols + col) _ r (tests .1) in
       record {
         samples-finite = gates .0;

@@ -15,7 +15,8 @@ use borrow.Author.Tests.{ltb-false, lt-ltb, le-ltb, eqb-true, not-false}
 use Rattle.tables.specs.declared.Refusal.{Refusal}
 use Rattle.tables.specs.declared.Checked.{Checked}
 use Rattle.tables.specs.declared.Checked.the-variants.{Fine}
-use Rattle.pyramid.specs.Pyramid.{halfOf, columnOf, columnsOf, halvedOf, needed, Halves, Stored, unless, downsampleChecks, outcome, downsampled}
+use Rattle.tables.proofs.RefusalLaws.{unless-fine}
+use Rattle.pyramid.specs.Pyramid.{halfOf, columnOf, columnsOf, halvedOf, needed, Halves, Stored, downsampleChecks, outcome, downsampled}
 use Rattle.pyramid.specs.declared.Halved.the-variants.{Sides}
 
 -- ---- half a side
@@ -136,11 +137,6 @@ stored-start {a = a} {fs = fs} p room =
     p .floats ∙ sets-eq fs a 0 (omega arith) ∙ ap (λ (k : ℕ). fs ++ drop k a) start
 
 -- ---- what the checks leave to know
-
-unless-fine : (b : Bool) (r : Refusal) (next : Checked) → unless b r next ≡ Fine → (b ≡ false) × (next ≡ Fine)
-unfolding unless
-unless-fine true r next h = (cc, cc)
-unless-fine false r next h = (refl, h)
 
 -- what no check refuses
 pub record Passed (n room rows cols : ℕ) : Type 0 where

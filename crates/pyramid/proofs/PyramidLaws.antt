@@ -2,7 +2,8 @@
 -- refusals. Assumes nothing.
 use Prim.Native.Nat.{ℕ, _+_, _*_, _/_, _-_, _≤_, _<_}
 use native.Mathlib.Omega.{arith}
-use mathlib.Core.Bool.{Bool, true, false, cond, _||_}
+use mathlib.Core.Bool.{Bool, true, false, cond, false≢true}
+use mathlib.Core.Logic.{inl, inr}
 use mathlib.Core.List.{List}
 use mathlib.Core.Path.{_≡_, refl, sym, ap, _∙_}
 use lib.ListN.{length, getD, drop, length-append, length-drop, List·getD-append}
@@ -14,8 +15,9 @@ use Rattle.tables.specs.declared.Refusal.{Refusal}
 use Rattle.tables.specs.declared.Refusal.the-variants.{Size, Level, Octave, BadSet, Records, Room, NoSize}
 use Rattle.tables.specs.declared.Checked.{Checked}
 use Rattle.tables.specs.declared.Checked.the-variants.{Fine, Bad}
-use Rattle.tables.specs.Refusal.{number}
-use Rattle.pyramid.specs.Pyramid.{octavesOf, octaveCountOf, halfOf, halvedOf, needed, unless, downsampleChecks, applies, Outcome, outcome, downsampled, downsampleOf}
+use Rattle.tables.specs.Refusal.{number, firstOf, Among, risesAbove}
+use Rattle.tables.proofs.RefusalLaws.{unless-or, first-holds, first-before, first-fine, none-fine, only-listed}
+use Rattle.pyramid.specs.Pyramid.{octavesOf, octaveCountOf, halfOf, halvedOf, needed, downsampleChecks, applies, refusals, Outcome, outcome, downsampled, downsampleOf}
 use Rattle.pyramid.specs.declared.Halved.{Halved}
 use Rattle.pyramid.specs.declared.Halved.the-variants.{Sides, Refused}
 use Rattle.pyramid.proofs.HalvedLaws.{halved-pixel, pixel-before, length-halved, checks-passed}
@@ -95,72 +97,6 @@ pub count-of-1025 : octaveCountOf 1025 1025 ≡ 6
 unfolding octaveCountOf octavesOf
 count-of-1025 = refl
 
--- ---- three tests, of which the first that holds decides
-
-unfoldable firstOf : Bool → Bool → Bool → Checked
-firstOf a b c = unless a Size (unless b Level (unless c Room Fine))
-
-unfoldable among : Bool → Bool → Bool → Refusal → Bool
-among a b c Size = a
-among a b c Level = b
-among a b c Octave = false
-among a b c BadSet = false
-among a b c (Records i) = false
-among a b c Room = c
-among a b c NoSize = false
-
-none-under : (a b c : Bool) (k : ℕ) → (1 < k → a ≡ false) → (2 < k → b ≡ false) → (6 < k → c ≡ false) → (q : Refusal) → number q < k → among a b c q ≡ false
-unfolding number among
-none-under a b c k ha hb hc Size h = ha h
-none-under a b c k ha hb hc Level h = hb h
-none-under a b c k ha hb hc Octave h = refl
-none-under a b c k ha hb hc BadSet h = refl
-none-under a b c k ha hb hc (Records i) h = refl
-none-under a b c k ha hb hc Room h = hc h
-none-under a b c k ha hb hc NoSize h = refl
-
-outside : {A : Type 0} (i k : ℕ) → k ≤ i → i < k → A
-outside i k p q = let z : ⊥ = omega arith in absurd z
-
--- the one refused holds, and none of a smaller number does
-unfoldable First : Bool → Bool → Bool → Refusal → Type 0
-First a b c r = (among a b c r ≡ true) × ((q : Refusal) → number q < number r → among a b c q ≡ false)
-
-first-refused : (a b c : Bool) (r : Refusal) → firstOf a b c ≡ Bad r → First a b c r
-unfolding firstOf unless among number First
-first-refused true b c r h =
-    let e : Size ≡ r = cc in
-    rw (← e) (refl, none-under true b c 1 (outside 1 1 (omega arith)) (outside 2 1 (omega arith)) (outside 6 1 (omega arith)))
-first-refused false true c r h =
-    let e : Level ≡ r = cc in
-    rw (← e) (refl, none-under false true c 2 (λ l. refl) (outside 2 2 (omega arith)) (outside 6 2 (omega arith)))
-first-refused false false true r h =
-    let e : Room ≡ r = cc in
-    rw (← e) (refl, none-under false false true 6 (λ l. refl) (λ l. refl) (outside 6 6 (omega arith)))
-first-refused false false false r h = (cc, λ q l. cc)
-
-first-fine : (a b c : Bool) → firstOf a b c ≡ Fine → (q : Refusal) → among a b c q ≡ false
-unfolding firstOf unless among
-first-fine true b c h q = cc
-first-fine false true c h q = cc
-first-fine false false true h q = cc
-first-fine false false false h Size = refl
-first-fine false false false h Level = refl
-first-fine false false false h Octave = refl
-first-fine false false false h BadSet = refl
-first-fine false false false h (Records i) = refl
-first-fine false false false h Room = refl
-first-fine false false false h NoSize = refl
-
-none-fine : (a b c : Bool) → a ≡ false → b ≡ false → c ≡ false → firstOf a b c ≡ Fine
-unfolding firstOf unless
-none-fine a b c ha hb hc = rw (ha, hb, hc)
-
-unless-or : (a b : Bool) (r : Refusal) (next : Checked) → unless (a || b) r next ≡ unless a r (unless b r next)
-unfolding unless
-unless-or true b r next = refl
-unless-or false b r next = refl
-
 -- ---- over the outcome of the checks
 
 module _ (rows cols : ℕ) (l out : List Float) where
@@ -237,33 +173,35 @@ module _ (rows cols : ℕ) (l out : List Float) where
   unfolding downsampleOf
   length-kept = buffer-length rows cols l out _ (λ e. checks-passed _ _ _ _ e .roomy)
 
-  wrong-among : (r : Refusal) → wrong r ≡ among (wrong Size) (wrong Level) (wrong Room) r
-  unfolding applies among
-  wrong-among Size = refl
-  wrong-among Level = refl
-  wrong-among Octave = refl
-  wrong-among BadSet = refl
-  wrong-among (Records i) = refl
-  wrong-among Room = refl
-  wrong-among NoSize = refl
-
-  checks-first : firstOf (wrong Size) (wrong Level) (wrong Room) ≡ downsampleChecks (length l) (length out) rows cols
-  unfolding downsampleChecks firstOf applies
+  checks-first : firstOf wrong refusals ≡ downsampleChecks (length l) (length out) rows cols
+  unfolding downsampleChecks firstOf applies refusals
   checks-first = simp unless-or
 
-  refused : (r : Refusal) → after .answer ≡ Refused r → First (wrong Size) (wrong Level) (wrong Room) r
+  rising : risesAbove 0 refusals ≡ true
+  unfolding risesAbove refusals number
+  rising = refl
+
+  listed : (q : Refusal) → wrong q ≡ true → Among q refusals
+  unfolding applies Among refusals
+  listed Size e = inl refl
+  listed Level e = inr (inl refl)
+  listed Octave e = absurd (false≢true e)
+  listed BadSet e = absurd (false≢true e)
+  listed (Records i) e = absurd (false≢true e)
+  listed Room e = inr (inr (inl refl))
+  listed NoSize e = absurd (false≢true e)
+
+  refused : (r : Refusal) → after .answer ≡ Refused r → firstOf wrong refusals ≡ Bad r
   unfolding downsampleOf
-  refused r e = first-refused _ _ _ r (checks-first ∙ answer-refused rows cols l out _ r e)
+  refused r e = checks-first ∙ answer-refused rows cols l out _ r e
 
   -- a refusal that is answered applies
   pub refused-applies : (r : Refusal) → after .answer ≡ Refused r → wrong r ≡ true
-  unfolding First
-  refused-applies r e = wrong-among r ∙ refused r e .0
+  refused-applies r e = first-holds wrong refusals r (refused r e)
 
   -- and none with a smaller number does: the order is 1, 2, 6
   pub refused-first : (r : Refusal) → after .answer ≡ Refused r → (q : Refusal) → number q < number r → wrong q ≡ false
-  unfolding First
-  refused-first r e q h = wrong-among q ∙ refused r e .1 q h
+  refused-first r e q less = only-listed wrong refusals q (listed q) (λ a. first-before wrong refusals r 0 rising (refused r e) q a less)
 
   -- a refusal writes nothing
   pub refused-keeps : (r : Refusal) → after .answer ≡ Refused r → after .buffer ≡ out
@@ -273,9 +211,9 @@ module _ (rows cols : ℕ) (l out : List Float) where
   -- a call that answers sides has none that applies
   pub halved-none : (h w : ℕ) → after .answer ≡ Sides h w → (q : Refusal) → wrong q ≡ false
   unfolding downsampleOf
-  halved-none h w e q = wrong-among q ∙ first-fine _ _ _ (checks-first ∙ answer-halved rows cols l out _ h w e .0) q
+  halved-none h w e q = only-listed wrong refusals q (listed q) (first-fine wrong refusals (checks-first ∙ answer-halved rows cols l out _ h w e .0) q)
 
   -- and a call to which none applies answers the new sides
   pub none-halved : ((q : Refusal) → wrong q ≡ false) → after .answer ≡ Sides (halfOf rows cols) (halfOf cols rows)
   unfolding downsampleOf downsampled
-  none-halved h = rw (sym checks-first ∙ none-fine _ _ _ (h Size) (h Level) (h Room))
+  none-halved h = rw (sym checks-first ∙ none-fine wrong refusals (λ q a. h q))

@@ -7,6 +7,7 @@ use lib.ListN.{length, getD, drop}
 use lib.Seq.{sets}
 use lib.Dec.{ltb, leb, eqb}
 use lib.Ieee.{Float, nan}
+use Rattle.tables.specs.Refusal.{unless}
 use Rattle.tables.specs.declared.Refusal.{Refusal}
 use Rattle.tables.specs.declared.Refusal.the-variants.{Size, Level, Octave, BadSet, Records, Room, NoSize}
 use Rattle.tables.specs.declared.Checked.{Checked}
@@ -64,11 +65,6 @@ pub record Stored (out out' : List Float) (at : ℕ) (fs : List Float) : Type 0 
 
 -- ---- refusals
 
--- refuse r where the test holds, and look further otherwise
-unfoldable pub unless : Bool → Refusal → Checked → Checked
-unless true r next = Bad r
-unless false r next = next
-
 -- the checks in their order, for a level of n floats and a buffer of room floats: 1, 2, 6
 unfoldable pub downsampleChecks : ℕ → ℕ → ℕ → ℕ → Checked
 downsampleChecks n room rows cols =
@@ -86,6 +82,10 @@ applies BadSet rows cols l out = false
 applies (Records i) rows cols l out = false
 applies Room rows cols l out = ltb (length out) (needed rows cols)
 applies NoSize rows cols l out = false
+
+-- those that can apply, in the order of their numbers
+unfoldable pub refusals : List Refusal
+refusals = Size ∷ Level ∷ Room ∷ []
 
 -- ---- the whole
 

@@ -11,7 +11,8 @@ use lib.Dec.{T}
 use lib.Ieee.{Float, nan, inf, fin, binary32, isNan, ofBits}
 use lib.Ieee.Bits.{toBits-ofBits}
 use Rattle.float.specs.Small.{finite}
-use Rattle.record.specs.Layout.{wordBytes, floatBytes, floats4, recordBytes, wordFrom, floatFrom, recordFrom}
+use Rattle.words.specs.Words.{wordBytes, floatBytes, wordFrom, floatFrom}
+use Rattle.record.specs.Layout.{floats4, recordBytes, recordFrom}
 use Rattle.record.specs.Readable.{Finite}
 
 -- ---- a record's own bytes

@@ -10,19 +10,13 @@ use lib.Seq.{sets, length-sets, sets-eq, take-nil, take-at, drop-at, getD-drop}
 use lib.Dec.{leb}
 use lib.Ieee.{Float}
 use borrow.Author.Tests.{le-leb, lt-leb}
-use Rattle.record.specs.Layout.{wordBytes, floatBytes, floats4, recordBytes, put, lay, bytesOf, laid, written}
+use Rattle.words.specs.Words.{wordBytes, floatBytes}
+use Rattle.words.proofs.Stores.{sets-append}
+use Rattle.words.proofs.WordsLaws.{length-wordBytes}
+use Rattle.record.specs.Layout.{floats4, recordBytes, put, lay, bytesOf, laid, written}
 use Rattle.record.specs.declared.Record.{Record}
-use Rattle.record.proofs.Stores.{sets-append}
 
 -- ---- lengths
-
-pub length-wordBytes : (v : ℕ) → length (wordBytes v) ≡ 4
-unfolding wordBytes
-length-wordBytes v = refl
-
-pub length-floatBytes : (x : Float) → length (floatBytes x) ≡ 4
-unfolding floatBytes wordBytes
-length-floatBytes x = refl
 
 pub length-floats4 : (a b c d : Float) → length (floats4 a b c d) ≡ 16
 unfolding floats4 floatBytes wordBytes

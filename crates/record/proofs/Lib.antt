@@ -1,4 +1,3 @@
-pub mod Stores
 pub mod LayoutLaws
 pub mod RoundTrip
 pub mod Converse

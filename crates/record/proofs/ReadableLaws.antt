@@ -1,34 +1,14 @@
 -- A readable record has each of the parts, and a record that has them is readable. Assumes nothing.
 use Prim.Native.Nat.{ℕ, _*_}
 use mathlib.Core.Path.{_≡_, refl}
-use mathlib.Core.Bool.{Bool, true, false, false≢true, _&&_, _||_}
+use mathlib.Core.Bool.{Bool, true, false, _||_}
 use mathlib.Core.Logic.{_⊎_, inl, inr}
 use lib.Dec.{leb, ltb, eqb}
 use borrow.Author.Tests.{ltb-true, leb-true, eqb-true, lt-ltb, le-leb, eq-eqb}
 use Rattle.float.specs.Small.{finite}
+use Rattle.float.proofs.Bools.{all-eight}
 use Rattle.record.specs.Readable.{finiteRecord, onSide, readable, Finite, Readable}
 use Rattle.record.specs.declared.Record.{Record}
-
--- eight tests that all hold
-record Eight (a b c d e f g h : Bool) : Type 0 where
-  t1 : a ≡ true
-  t2 : b ≡ true
-  t3 : c ≡ true
-  t4 : d ≡ true
-  t5 : e ≡ true
-  t6 : f ≡ true
-  t7 : g ≡ true
-  t8 : h ≡ true
-
-eight : (a b c d e f g h : Bool) → a && b && c && d && e && f && g && h ≡ true → Eight a b c d e f g h
-eight true true true true true true true h q = record { t1 = refl; t2 = refl; t3 = refl; t4 = refl; t5 = refl; t6 = refl; t7 = refl; t8 = q }
-eight true true true true true true false h q = absurd (false≢true q)
-eight true true true true true false g h q = absurd (false≢true q)
-eight true true true true false f g h q = absurd (false≢true q)
-eight true true true false e f g h q = absurd (false≢true q)
-eight true true false d e f g h q = absurd (false≢true q)
-eight true false c d e f g h q = absurd (false≢true q)
-eight false b c d e f g h q = absurd (false≢true q)
 
 one-of : (n : ℕ) (a b : Bool) → (a ≡ true → n ≡ 1) → (b ≡ true → n ≡ 2) → a || b ≡ true → (n ≡ 1) ⊎ (n ≡ 2)
 one-of n true b one two q = inl (one refl)
@@ -41,8 +21,8 @@ index-is n (inr e) = rw e
 pub finite-parts : (r : Record) → finiteRecord r ≡ true → Finite r
 unfolding finiteRecord
 finite-parts r q =
-    let p = eight (finite (r .x)) (finite (r .y)) (finite (r .sigma)) (finite (r .peak)) (finite (r .s0)) (finite (r .s1)) (finite (r .s2)) (finite (r .s3)) q in
-    record { x = p .t1; y = p .t2; sigma = p .t3; peak = p .t4; s0 = p .t5; s1 = p .t6; s2 = p .t7; s3 = p .t8 }
+    let p = all-eight (finite (r .x)) (finite (r .y)) (finite (r .sigma)) (finite (r .peak)) (finite (r .s0)) (finite (r .s1)) (finite (r .s2)) (finite (r .s3)) q in
+    record { x = p .0; y = p .1; sigma = p .2; peak = p .3; s0 = p .4; s1 = p .5; s2 = p .6; s3 = p .7 }
 
 pub parts-finite : (r : Record) → Finite r → finiteRecord r ≡ true
 unfolding finiteRecord
@@ -52,16 +32,16 @@ module _ (rows cols : ℕ) (r : Record) where
   pub readable-parts : readable rows cols r ≡ true → Readable rows cols r
   unfolding readable
   readable-parts q =
-      let p = eight (finiteRecord r) (onSide cols (r .x)) (onSide rows (r .y)) (ltb (r .key) (rows * cols)) (leb (r .octave) 5) (eqb (r .index) 1 || eqb (r .index) 2) (leb (r .polarity) 1) (eqb (r .spare) 0) q in
+      let p = all-eight (finiteRecord r) (onSide cols (r .x)) (onSide rows (r .y)) (ltb (r .key) (rows * cols)) (leb (r .octave) 5) (eqb (r .index) 1 || eqb (r .index) 2) (leb (r .polarity) 1) (eqb (r .spare) 0) q in
       record {
-        floats = finite-parts r (p .t1);
-        x = p .t2;
-        y = p .t3;
-        key = ltb-true (r .key) (rows * cols) (p .t4);
-        octave = leb-true (r .octave) 5 (p .t5);
-        index = one-of (r .index) (eqb (r .index) 1) (eqb (r .index) 2) (eqb-true (r .index) 1) (eqb-true (r .index) 2) (p .t6);
-        polarity = leb-true (r .polarity) 1 (p .t7);
-        spare = eqb-true (r .spare) 0 (p .t8);
+        floats = finite-parts r (p .0);
+        x = p .1;
+        y = p .2;
+        key = ltb-true (r .key) (rows * cols) (p .3);
+        octave = leb-true (r .octave) 5 (p .4);
+        index = one-of (r .index) (eqb (r .index) 1) (eqb (r .index) 2) (eqb-true (r .index) 1) (eqb-true (r .index) 2) (p .5);
+        polarity = leb-true (r .polarity) 1 (p .6);
+        spare = eqb-true (r .spare) 0 (p .7);
       }
 
   pub parts-readable : Readable rows cols r → readable rows cols r ≡ true

@@ -1,58 +1,24 @@
 -- A record that is written is read back as it was. Assumes nothing.
-use Prim.Native.Nat.{ℕ, suc, _+_, _*_, _/_, _%_, _^_, _<_}
-use native.Mathlib.Nat.{add-zero, add-assoc, div-div-eq-div-mul, mod-eq-of-lt}
+use Prim.Native.Nat.{ℕ, suc, _+_, _*_, _/_, _<_}
+use native.Mathlib.Nat.{add-zero, add-assoc}
 use native.Mathlib.Omega.{arith}
 use mathlib.Core.Path.{_≡_, refl, sym, ap, _∙_}
 use mathlib.Core.List.{List, [], _∷_, _++_, append-assoc}
 use lib.ListN.{length, getD, take, drop, length-take}
 use lib.Seq.{getD-append-add, split-at, getD-take}
 use lib.Dec.{T}
-use lib.Ieee.{Float, binary32, fits, ofBits, toBits}
-use lib.Ieee.Bits.{ofBits-toBits, toBits-lt}
-use Rattle.record.specs.Layout.{wordBytes, floatBytes, floats4, recordBytes, bytesOf, laid, written, wordFrom, floatFrom, recordFrom, recordAt, Held}
+use lib.Ieee.{Float, binary32, fits}
+use Rattle.words.specs.Words.{wordBytes, floatBytes, wordFrom, floatFrom}
+use Rattle.words.proofs.WordsLaws.{wordFrom-append, floatFrom-append, wordFrom-wordBytes, floatFrom-floatBytes}
+use Rattle.record.specs.Layout.{floats4, recordBytes, bytesOf, laid, written, recordFrom, recordAt, Held}
 use Rattle.record.specs.declared.Record.{Record}
 use Rattle.record.proofs.LayoutLaws.{length-bytesOf}
 
 -- ---- reading past a front
 
-pub wordFrom-append : (front b : List ℕ) (k : ℕ) → wordFrom (front ++ b) (length front + k) ≡ wordFrom b k
-unfolding wordFrom
-wordFrom-append front b k = simp (add-assoc, getD-append-add)
-
-pub floatFrom-append : (front b : List ℕ) (k : ℕ) → floatFrom (front ++ b) (length front + k) ≡ floatFrom b k
-unfolding floatFrom
-floatFrom-append front b k = ap (ofBits binary32) (wordFrom-append front b k)
-
 pub recordFrom-append : (front b : List ℕ) (k : ℕ) → recordFrom (front ++ b) (length front + k) ≡ recordFrom b k
 unfolding recordFrom
 recordFrom-append front b k = simp (add-assoc, floatFrom-append, wordFrom-append, getD-append-add)
-
--- ---- one value
-
-digit : (n : ℕ) → n % 256 + 256 * (n / 256) ≡ n
-digit n = omega arith
-
-summed : (v p q s a b c : ℕ) → a + 256 * p ≡ v → b + 256 * q ≡ p → c + 256 * s ≡ q → a + 256 * b + 65536 * c + 16777216 * s ≡ v
-summed v p q s a b c i j k = omega arith
-
-four-digits : (v : ℕ) → v < 2 ^ 32 → v % 256 + 256 * (v / 256 % 256) + 65536 * (v / 65536 % 256) + 16777216 * (v / 16777216 % 256) ≡ v
-four-digits v h =
-    let p : ℕ = v / 256 in
-    let q : ℕ = v / 65536 in
-    let s : ℕ = v / 16777216 in
-    let q-is : p / 256 ≡ q = div-div-eq-div-mul v 256 256 in
-    let s-is : q / 256 ≡ s = div-div-eq-div-mul v 65536 256 in
-    let last : s % 256 ≡ s = mod-eq-of-lt (omega arith) in
-    rw last (summed v p q s (v % 256) (p % 256) (q % 256) (digit v) (rw q-is at (digit p)) (rw s-is at (digit q)))
-
-pub wordFrom-wordBytes : (v : ℕ) (rest : List ℕ) → v < 2 ^ 32 → wordFrom (wordBytes v ++ rest) 0 ≡ v
-unfolding wordFrom wordBytes
-wordFrom-wordBytes v rest h = four-digits v h
-
--- NaN too, which is written as the one pattern 0x7fc00000
-pub floatFrom-floatBytes : (x : Float) (rest : List ℕ) → T (fits binary32 x) → floatFrom (floatBytes x ++ rest) 0 ≡ x
-unfolding floatFrom floatBytes
-floatFrom-floatBytes x rest f = ap (ofBits binary32) (wordFrom-wordBytes (toBits binary32 x) rest (toBits-lt binary32 x f)) ∙ ofBits-toBits binary32 x f
 
 -- ---- one record
 
@@ -67,7 +33,7 @@ first-back r rest h = λ i. record {
   s1 = back (r .s1) (h .s1) i;
   s2 = back (r .s2) (h .s2) i;
   s3 = back (r .s3) (h .s3) i;
-  key = four-digits (r .key) (h .key) i;
+  key = wordFrom-wordBytes (r .key) [] (h .key) i;
   octave = r .octave;
   index = r .index;
   polarity = r .polarity;

@@ -1,22 +1,15 @@
 -- The bytes of a record, written and read, and how records lie in a buffer. Definitions only.
-use Prim.Native.Nat.{ℕ, suc, _+_, _*_, _/_, _%_, _^_, _<_, min}
+use Prim.Native.Nat.{ℕ, suc, _+_, _*_, _/_, _^_, _<_, min}
 use mathlib.Core.Bool.{cond}
 use mathlib.Core.List.{List, [], _∷_, _++_}
 use lib.ListN.{getD, length, take, drop}
 use lib.Seq.{sets}
 use lib.Dec.{T, leb}
-use lib.Ieee.{Float, binary32, fits, ofBits, toBits}
+use lib.Ieee.{Float, binary32, fits}
+use Rattle.words.specs.Words.{wordBytes, floatBytes, wordFrom, floatFrom}
 use Rattle.record.specs.declared.Record.{Record}
 
 -- ---- writing
-
--- a word's four bytes, the lowest first
-unfoldable pub wordBytes : ℕ → List ℕ
-wordBytes v = v % 256 ∷ v / 256 % 256 ∷ v / 65536 % 256 ∷ v / 16777216 % 256 ∷ []
-
--- a float's, by its bit pattern
-unfoldable pub floatBytes : Float → List ℕ
-floatBytes x = wordBytes (toBits binary32 x)
 
 -- four floats' bytes
 unfoldable pub floats4 : Float → Float → Float → Float → List ℕ
@@ -51,14 +44,6 @@ abbrev pub written : List Record → List ℕ → ℕ
 written rs out = min (length out / 40) (length rs)
 
 -- ---- reading
-
--- the little-endian word that begins at the byte at
-unfoldable pub wordFrom : List ℕ → ℕ → ℕ
-wordFrom b at = getD b at 0 + 256 * getD b (at + 1) 0 + 65536 * getD b (at + 2) 0 + 16777216 * getD b (at + 3) 0
-
--- the float that begins there; a NaN pattern gives NaN
-unfoldable pub floatFrom : List ℕ → ℕ → Float
-floatFrom b at = ofBits binary32 (wordFrom b at)
 
 -- the record that begins at the byte at
 unfoldable pub recordFrom : List ℕ → ℕ → Record

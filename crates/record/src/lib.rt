@@ -1,11 +1,9 @@
 // A spot's record: its values, its 40 bytes, and when a record is readable. The layout stands here and nowhere else.
 ghost use mathlib.Core.Path.{_≡_};
-ghost use mathlib.Core.List.{[], _∷_};
 ghost use Prim.Native.Nat.{_+_, _<_, _≤_, _^_};
 ghost use lib.ListN.{length};
 ghost use lib.Seq.{sets};
-ghost use lib.Ieee.{binary32, toBits, ofBits};
-ghost use Rattle.record.specs.Layout.{wordBytes, floatBytes, floats4, recordBytes, put, wordFrom, floatFrom, recordFrom};
+ghost use Rattle.record.specs.Layout.{floats4, recordBytes, put, recordFrom};
 ghost use Rattle.record.specs.Readable.{finiteRecord, within, onSide, readable};
 
 pub struct Record {
@@ -24,65 +22,17 @@ pub struct Record {
     pub spare: u8,
 }
 
-// The bit pattern of x, any NaN as 0x7fc00000.
-pub fn bits(x: f32) -> u32
-    ensures { λ r. ⌜ r ≡ toBits binary32 x ⌝ }
-{
-    if x == x { f32::to_bits(x) } else { 0x7fc0_0000 }
-}
-
-// The float with the bit pattern word, NaN for each NaN pattern.
-pub fn float_of(word: u32) -> f32
-    ensures { λ r. ⌜ r ≡ ofBits binary32 word ⌝ }
-{
-    if word % 0x8000_0000 <= 0x7f80_0000 {
-        f32::from_bits(word)
-    } else {
-        0.0 / 0.0
-    }
-}
-
 // ---- writing
-
-// The word's four bytes from the byte at on, the lowest first.
-pub fn put_word(out: &mut [u8], at: usize, v: u32)
-    requires { ⌜ at + 4 ≤ length (now out) ⌝ }
-    ensures { λ _. ⌜ now (out .exit) ≡ sets (now (out .entry)) at (wordBytes v) ⌝ }
-{
-    out[at] = (v % 256) as u8;
-    out[at + 1] = (v / 256 % 256) as u8;
-    out[at + 2] = (v / 65536 % 256) as u8;
-    out[at + 3] = (v / 16777216 % 256) as u8;
-}
-
-// The float's four bytes from the byte at on.
-pub fn put_float(out: &mut [u8], at: usize, x: f32)
-    requires { ⌜ at + 4 ≤ length (now out) ⌝ }
-    ensures { λ _. ⌜ now (out .exit) ≡ sets (now (out .entry)) at (floatBytes x) ⌝ }
-{
-    put_word(out, at, bits(x));
-}
 
 // Four floats, one after the other.
 fn put_floats(out: &mut [u8], at: usize, a: f32, b: f32, c: f32, d: f32)
     requires { ⌜ at + 16 ≤ length (now out) ⌝ }
     ensures { λ _. ⌜ now (out .exit) ≡ sets (now (out .entry)) at (floats4 a b c d) ⌝ }
 {
-    put_float(out, at, a);
-    put_float(out, at + 4, b);
-    put_float(out, at + 8, c);
-    put_float(out, at + 12, d);
-}
-
-// Four bytes.
-pub fn put_bytes(out: &mut [u8], at: usize, a: u8, b: u8, c: u8, d: u8)
-    requires { ⌜ at + 4 ≤ length (now out) ⌝ }
-    ensures { λ _. ⌜ now (out .exit) ≡ sets (now (out .entry)) at (a ∷ b ∷ c ∷ d ∷ []) ⌝ }
-{
-    out[at] = a;
-    out[at + 1] = b;
-    out[at + 2] = c;
-    out[at + 3] = d;
+    words::put_float(out, at, a);
+    words::put_float(out, at + 4, b);
+    words::put_float(out, at + 8, c);
+    words::put_float(out, at + 12, d);
 }
 
 // The record's 40 bytes from the byte at on.
@@ -92,8 +42,8 @@ pub fn put_record(out: &mut [u8], at: usize, r: Record)
 {
     put_floats(out, at, r.x, r.y, r.sigma, r.peak);
     put_floats(out, at + 16, r.s0, r.s1, r.s2, r.s3);
-    put_word(out, at + 32, r.key);
-    put_bytes(out, at + 36, r.octave, r.index, r.polarity, r.spare);
+    words::put_word(out, at + 32, r.key);
+    words::put_bytes(out, at + 36, r.octave, r.index, r.polarity, r.spare);
 }
 
 // The record at place n, where the buffer has room for it whole.
@@ -109,43 +59,21 @@ pub fn put_at(out: &mut [u8], n: usize, r: Record)
 
 // ---- reading
 
-fn wide(x: u8) -> u32
-    ensures { λ r. ⌜ (r ≡ x) × (r < 256) ⌝ }
-{
-    x as u32
-}
-
-// The little-endian word that begins at the byte at.
-pub fn word_from(b: &[u8], at: usize) -> u32
-    requires { ⌜ at + 4 ≤ length (now b) ⌝ }
-    ensures { λ r. ⌜ r ≡ wordFrom (now (b .entry)) at ⌝ }
-{
-    wide(b[at]) + 256 * wide(b[at + 1]) + 65536 * wide(b[at + 2]) + 16777216 * wide(b[at + 3])
-}
-
-// The float that begins at the byte at.
-pub fn float_from(b: &[u8], at: usize) -> f32
-    requires { ⌜ at + 4 ≤ length (now b) ⌝ }
-    ensures { λ r. ⌜ r ≡ floatFrom (now (b .entry)) at ⌝ }
-{
-    float_of(word_from(b, at))
-}
-
 // The record that begins at the byte at.
 pub fn record_from(b: &[u8], at: usize) -> Record
     requires { ⌜ at + 40 ≤ length (now b) ⌝ }
     ensures { λ r. ⌜ r ≡ recordFrom (now (b .entry)) at ⌝ }
 {
     Record {
-        x: float_from(b, at),
-        y: float_from(b, at + 4),
-        sigma: float_from(b, at + 8),
-        peak: float_from(b, at + 12),
-        s0: float_from(b, at + 16),
-        s1: float_from(b, at + 20),
-        s2: float_from(b, at + 24),
-        s3: float_from(b, at + 28),
-        key: word_from(b, at + 32),
+        x: words::float_from(b, at),
+        y: words::float_from(b, at + 4),
+        sigma: words::float_from(b, at + 8),
+        peak: words::float_from(b, at + 12),
+        s0: words::float_from(b, at + 16),
+        s1: words::float_from(b, at + 20),
+        s2: words::float_from(b, at + 24),
+        s3: words::float_from(b, at + 28),
+        key: words::word_from(b, at + 32),
         octave: b[at + 36],
         index: b[at + 37],
         polarity: b[at + 38],

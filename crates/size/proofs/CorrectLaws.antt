@@ -9,6 +9,7 @@ use lib.Ieee.{Float, le, ne, neg}
 use Rattle.float.specs.Small.{finite}
 use Rattle.float.specs.Num.{_⊕_, _⊘_}
 use Rattle.tables.specs.Set.{good}
+use Rattle.float.proofs.Bools.{both, all-four, passed}
 use Rattle.tables.specs.declared.Set.{Set}
 use Rattle.tables.specs.Refusal.{number}
 use Rattle.tables.specs.declared.Refusal.{Refusal}
@@ -21,7 +22,6 @@ use Rattle.size.specs.declared.Corrected.{Corrected}
 use Rattle.size.specs.declared.Corrected.the-variants.{Sigma, NoSize}
 use Rattle.size.specs.declared.Correction.{Correction}
 use Rattle.size.specs.declared.Correction.the-variants.{Size, Refused}
-use Rattle.size.proofs.Tests.{left, right, passed}
 
 -- ---- the promise allows one answer
 
@@ -42,13 +42,10 @@ module _ (g : Geometry) where
   accepted-in-window : (t sigma : Float) → accepted g t sigma ≡ true → InWindow g sigma
   unfolding accepted
   accepted-in-window t sigma e =
-      let window = right (finite t && finite sigma && (le (g .tmin) t && le t (g .tmax))) (le (g .sigmamin) sigma && le sigma (g .sigmamax)) e in
-      let finites = left (finite t && finite sigma) (le (g .tmin) t && le t (g .tmax)) (left _ (le (g .sigmamin) sigma && le sigma (g .sigmamax)) e) in
-      record {
-        whole = right (finite t) (finite sigma) finites;
-        low = left (le (g .sigmamin) sigma) (le sigma (g .sigmamax)) window;
-        high = right (le (g .sigmamin) sigma) (le sigma (g .sigmamax)) window;
-      }
+      let parts = both (finite t && finite sigma && (le (g .tmin) t && le t (g .tmax))) (le (g .sigmamin) sigma && le sigma (g .sigmamax)) e in
+      let finites = both (finite t && finite sigma) (le (g .tmin) t && le t (g .tmax)) (parts .0) in
+      let window = both (le (g .sigmamin) sigma) (le sigma (g .sigmamax)) (parts .1) in
+      record { whole = both (finite t) (finite sigma) (finites .0) .1; low = window .0; high = window .1 }
 
   same-window : {x y : Float} → Sigma x ≡ Sigma y → InWindow g x → InWindow g y
   same-window {x} {y} e h = let same : x ≡ y = cc in rw (← same) h
@@ -56,14 +53,14 @@ module _ (g : Geometry) where
   module _ (k : List Float) (isMax : Bool) where
     better-in-window : (bounded model : Float) → better g k bounded model isMax ≡ true → InWindow g (sigmaAt g model)
     unfolding better
-    better-in-window bounded model e = accepted-in-window model (sigmaAt g model) (left _ _ (left _ _ (left _ _ e)))
+    better-in-window bounded model e = accepted-in-window model (sigmaAt g model) (all-four _ _ _ _ e .0)
 
     chosen-in-window : (t bounded model sigma : Float) → InWindow g sigma → InWindow g (chosenOf g k t bounded model sigma isMax)
     unfolding chosenOf
     chosen-in-window t bounded model sigma h = go (ne model bounded && better g k (t ⊕ bounded) (t ⊕ model) isMax) refl
       where
         go : (b : Bool) → (ne model bounded && better g k (t ⊕ bounded) (t ⊕ model) isMax) ≡ b → InWindow g (cond b (sigmaAt g (t ⊕ model)) sigma)
-        go true e = better-in-window (t ⊕ bounded) (t ⊕ model) (right (ne model bounded) _ e)
+        go true e = better-in-window (t ⊕ bounded) (t ⊕ model) (both (ne model bounded) _ e .1)
         go false e = h
 
     moved-in-window : (beta t derivative curvature sigma : Float) → movedOf g k beta t derivative curvature isMax ≡ Sigma sigma → InWindow g sigma
@@ -73,7 +70,7 @@ module _ (g : Geometry) where
         let model = modelMoveOf g beta (k at 0) derivative curvature move in
         let end = sigmaAt g (t ⊕ move) in
         let h = passed (inRange g move (t ⊕ move) end) (Sigma (chosenOf g k t move model end isMax)) NoSize e (no-size-no-sigma sigma) in
-        same-window (h .1) (chosen-in-window t move model end (accepted-in-window (t ⊕ move) end (right (finite move) _ (h .0))))
+        same-window (h .1) (chosen-in-window t move model end (accepted-in-window (t ⊕ move) end (both (finite move) _ (h .0) .1)))
 
 module _ (s : Set) (l : List Float) (anchor : Float) (isMax : Bool) where
   corrected-in-window : (sigma : Float) → correctedOf s l anchor isMax ≡ Sigma sigma → InWindow (geometryOf s) sigma

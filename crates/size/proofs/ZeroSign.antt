@@ -1,11 +1,12 @@
 -- Whichever zero max gives at two zeros, the corrected sigma is the same: the only maximum taken is of four roots above 0. Assumes nothing.
 use mathlib.Core.Path.{_≡_, refl}
 use mathlib.Core.List.{List}
-use mathlib.Core.Bool.{Bool, true, false, cond, _&&_, false≢true}
+use mathlib.Core.Bool.{Bool, true, false, cond, false≢true, and-false}
 use Prim.Native.Nat.{ℕ}
 use lib.Ieee.{Float, lt, isNan, ofBits, odd}
 use Rattle.float.specs.Small.{finite, maxOf}
 use Rattle.float.specs.Num.{f0}
+use Rattle.float.proofs.Bools.{both, all-four}
 use Rattle.tables.specs.declared.Set.{Set}
 use Rattle.fit.specs.Cubic.{_at_}
 use Rattle.fit.specs.Near.{Near, same, zeros}
@@ -13,7 +14,6 @@ use Rattle.fit.specs.Prims.{Prims, Allowed, ours}
 use Rattle.size.specs.Four.{usable, allUsable, squaresOf, quotientsOf, rootsOf, largestBy}
 use Rattle.size.specs.Profile.{usableRoots, scaledBy, statisticBy}
 use Rattle.size.specs.Correct.{blendBetaBy, correctedBy, correctBy}
-use Rattle.size.proofs.Tests.{left, right, and-false}
 
 -- near a number above 0 stands that number alone
 positive-alone : {x y : Float} → Near x y → lt f0 y ≡ true → x ≡ y
@@ -33,7 +33,7 @@ max-positive a b p q = go (isNan a) (lt a b)
 
 usable-positive : (x : Float) → usable x ≡ true → lt f0 x ≡ true
 unfolding usable
-usable-positive x h = right (finite x) (lt f0 x) h
+usable-positive x h = both (finite x) (lt f0 x) h .1
 
 module _ (p : Prims) (allowed : Allowed p) where
   max-same : (call : ℕ) (a b : Float) → lt f0 a ≡ true → lt f0 b ≡ true → p .maxP call a b ≡ maxOf a b
@@ -46,13 +46,12 @@ module _ (p : Prims) (allowed : Allowed p) where
   largest-same : (v : List Float) → allUsable v ≡ true → largestBy p v ≡ largestBy ours v
   unfolding largestBy allUsable
   largest-same v h =
-      let three = left (usable (v at 0) && usable (v at 1) && usable (v at 2)) (usable (v at 3)) h in
-      let two = left (usable (v at 0) && usable (v at 1)) (usable (v at 2)) three in
+      let each = all-four (usable (v at 0)) (usable (v at 1)) (usable (v at 2)) (usable (v at 3)) h in
       largest-of-positive (v at 0) (v at 1) (v at 2) (v at 3)
-      (usable-positive (v at 0) (left (usable (v at 0)) (usable (v at 1)) two))
-      (usable-positive (v at 1) (right (usable (v at 0)) (usable (v at 1)) two))
-      (usable-positive (v at 2) (right (usable (v at 0) && usable (v at 1)) (usable (v at 2)) three))
-      (usable-positive (v at 3) (right (usable (v at 0) && usable (v at 1) && usable (v at 2)) (usable (v at 3)) h))
+      (usable-positive (v at 0) (each .0))
+      (usable-positive (v at 1) (each .1))
+      (usable-positive (v at 2) (each .2))
+      (usable-positive (v at 3) (each .3))
 
   scaled-same : (x q : List Float) → scaledBy p x q ≡ scaledBy ours x q
   unfolding scaledBy usableRoots

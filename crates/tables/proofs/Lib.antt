@@ -1,4 +1,5 @@
--- The laws of the set, which other crates may cite, and those that only the functions' proofs cite.
+-- The laws of the set and of the refusals, which other crates may cite, and those that only the functions' proofs cite.
 pub mod SetLaws
+pub mod RefusalLaws
 mod Loops
 mod Floats

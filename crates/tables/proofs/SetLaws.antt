@@ -1,6 +1,6 @@
 -- What a good set gives, what the reader accepts and refuses, that each promise allows one answer, and that set T is good.
 use mathlib.Core.Path.{_≡_, refl, sym, ap, _∙_}
-use mathlib.Core.Bool.{Bool, true, false, not, _&&_, and-eq-true-iff, false≢true}
+use mathlib.Core.Bool.{Bool, true, false, not, false≢true}
 use mathlib.Core.List.{List, [], _∷_}
 use Prim.Native.Nat.{ℕ, zero, suc, _<_}
 use native.Mathlib.Nat.{not-suc-le-zero, le-of-suc-le-suc}
@@ -11,6 +11,7 @@ use lib.ListN.{length, getD, List·getD-eq-default}
 use lib.Ieee.{Float, nan, lt, ofBits, ofFields, odd}
 use Rattle.float.specs.Small.{finite}
 use Rattle.float.specs.Num.{f0}
+use Rattle.float.proofs.Bools.{both, all-four, all-five}
 use Rattle.tables.specs.declared.Set.{Set}
 use Rattle.tables.specs.declared.SetRead.{SetRead}
 use Rattle.tables.specs.declared.Refusal.{Refusal}
@@ -20,9 +21,6 @@ use Rattle.tables.specs.Set.{every, allFinite, allUnder, rising, allSet,
 use Rattle.tables.specs.Refusal.{number, refusedSet, readSetOf}
 use Rattle.tables.specs.SetT.{values, sigmasT, cubicT, row, blockT, numbersT, setT}
 use Rattle.tables.proofs.Floats.{no-nan-above, above-positive}
-
-both : (a b : Bool) → (a && b) ≡ true → (a ≡ true) × (b ≡ true)
-both a b e = (and-eq-true-iff a b) .0 e
 
 -- ---- lists whose every element passes a test
 
@@ -42,19 +40,6 @@ module _ {A : Type 0} (p : A → Bool) where
 
 -- ---- a good set
 
-four : (a b c d : Bool) → (a && b && c && d) ≡ true → (a ≡ true) × (b ≡ true) × (c ≡ true) × (d ≡ true)
-four a b c d e =
-    let x = both (a && b && c) d e in
-    let y = both (a && b) c (x .0) in
-    let z = both a b (y .0) in
-    (z .0, z .1, y .1, x .1)
-
-five : (a b c d e : Bool) → (a && b && c && d && e) ≡ true → (a ≡ true) × (b ≡ true) × (c ≡ true) × (d ≡ true) × (e ≡ true)
-five a b c d e h =
-    let x = both (a && b && c && d) e h in
-    let y = four a b c d (x .0) in
-    (y .0, y .1, y .2, y .3, x .1)
-
 -- a number that is above another stands in its list
 stands : (l : List Float) (i : ℕ) (x : Float) → lt x (getD l i nan) ≡ true → i < length l
 stands l i x e = go (ltb i (length l)) refl
@@ -68,15 +53,15 @@ stands l i x e = go (ltb i (length l)) refl
 module _ (s : Set) (g : good s ≡ true) where
   parts : (allSet s ≡ true) × (rising (s .sigmas) ≡ true) × (not (lt (getD (s .numbers) 10 nan) f0) ≡ true) × (allUnder 9 (s .order) ≡ true)
   unfolding good
-  parts = four (allSet s) (rising (s .sigmas)) (not (lt (getD (s .numbers) 10 nan) f0)) (allUnder 9 (s .order)) g
+  parts = all-four (allSet s) (rising (s .sigmas)) (not (lt (getD (s .numbers) 10 nan) f0)) (allUnder 9 (s .order)) g
 
   whole : (allFinite (s .sigmas) ≡ true) × (allFinite (s .scale) ≡ true) × (allFinite (s .geometry) ≡ true) × (allFinite (s .spatial) ≡ true) × (allFinite (s .numbers) ≡ true)
   unfolding allSet
-  whole = five (allFinite (s .sigmas)) (allFinite (s .scale)) (allFinite (s .geometry)) (allFinite (s .spatial)) (allFinite (s .numbers)) (parts .0)
+  whole = all-five (allFinite (s .sigmas)) (allFinite (s .scale)) (allFinite (s .geometry)) (allFinite (s .spatial)) (allFinite (s .numbers)) (parts .0)
 
   steps : (lt f0 (getD (s .sigmas) 0 nan) ≡ true) × (lt (getD (s .sigmas) 0 nan) (getD (s .sigmas) 1 nan) ≡ true) × (lt (getD (s .sigmas) 1 nan) (getD (s .sigmas) 2 nan) ≡ true) × (lt (getD (s .sigmas) 2 nan) (getD (s .sigmas) 3 nan) ≡ true)
   unfolding rising
-  steps = four _ _ _ _ (parts .1)
+  steps = all-four _ _ _ _ (parts .1)
 
   pub sigmas-rise : (i : ℕ) → i < 3 → lt (getD (s .sigmas) i nan) (getD (s .sigmas) (suc i) nan) ≡ true
   sigmas-rise zero h = steps .1

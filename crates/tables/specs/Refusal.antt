@@ -1,7 +1,10 @@
--- The refusals and their numbers, and what the reader of a set answers. Definitions only.
+-- The refusals and their numbers, checks in an order, and what the reader of a set answers. Definitions only.
 use Prim.Native.Nat.{ℕ}
-use mathlib.Core.List.{List}
-use mathlib.Core.Bool.{cond}
+use mathlib.Core.List.{List, [], _∷_}
+use mathlib.Core.Bool.{Bool, true, false, cond, _&&_}
+use mathlib.Core.Logic.{_⊎_}
+use mathlib.Core.Path.{_≡_}
+use lib.Dec.{ltb}
 use Rattle.tables.specs.declared.Refusal.{Refusal}
 use Rattle.tables.specs.declared.Refusal.the-variants.{Size, Level, Octave, BadSet, Records, Room, NoSize}
 use Rattle.tables.specs.declared.Checked.{Checked}
@@ -28,6 +31,26 @@ index Octave = 0
 index BadSet = 0
 index Room = 0
 index NoSize = 0
+
+-- refuse r where the test holds, and look further otherwise
+unfoldable pub unless : Bool → Refusal → Checked → Checked
+unless true r next = Bad r
+unless false r next = next
+
+-- the first refusal of the list whose test holds; fine where none does
+unfoldable pub firstOf : (Refusal → Bool) → List Refusal → Checked
+firstOf test [] = Fine
+firstOf test (r ∷ rs) = unless (test r) r (firstOf test rs)
+
+-- the refusal q is one of the list
+unfoldable pub Among : Refusal → List Refusal → Type 0
+Among q [] = ⊥
+Among q (r ∷ rs) = (q ≡ r) ⊎ Among q rs
+
+-- the list's numbers are above n, and rise
+unfoldable pub risesAbove : ℕ → List Refusal → Bool
+risesAbove n [] = true
+risesAbove n (r ∷ rs) = ltb n (number r) && risesAbove (number r) rs
 
 -- the answer to a bad record: refusal 4, and a set of zeros beside it
 unfoldable pub refusedSet : SetRead

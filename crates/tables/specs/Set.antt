@@ -1,12 +1,13 @@
 -- The set: its record's layout, and when a set is good. Definitions only.
-use Prim.Native.Nat.{ℕ, zero, suc, _+_, _*_}
+use Prim.Native.Nat.{ℕ, zero, suc, _*_}
 use mathlib.Core.List.{List, [], _∷_}
 use mathlib.Core.Bool.{Bool, true, not, _&&_}
 use lib.Dec.{eqb, ltb}
 use lib.ListN.{getD, length, take, drop, replicate}
-use lib.Ieee.{Float, nan, binary32, ofBits, lt}
+use lib.Ieee.{Float, nan, lt}
 use Rattle.float.specs.Small.{finite}
 use Rattle.float.specs.Num.{f0}
+use Rattle.words.specs.Words.{floatFrom}
 use Rattle.tables.specs.declared.Set.{Set}
 
 -- every element of the list passes the test
@@ -47,14 +48,10 @@ blank = record {
 
 -- ---- the record of 528 bytes
 
--- the little-endian word at byte 4 * i
-unfoldable pub wordAt : List ℕ → ℕ → ℕ
-wordAt b i = getD b (4 * i) 0 + 256 * getD b (4 * i + 1) 0 + 65536 * getD b (4 * i + 2) 0 + 16777216 * getD b (4 * i + 3) 0
-
 -- n floats from the i-th word on
 unfoldable pub floatsAt : ℕ → List ℕ → ℕ → List Float
 floatsAt zero b i = []
-floatsAt (suc n) b i = ofBits binary32 (wordAt b i) ∷ floatsAt n b (suc i)
+floatsAt (suc n) b i = floatFrom b (4 * i) ∷ floatsAt n b (suc i)
 
 -- 4 sigmas; 12 scale cubic and 12 geometry cubic entries; 45 spatial entries for scale index 1, then 45 for 2; 11 geometry numbers; 9 sample-order bytes
 unfoldable pub setOf : List ℕ → Set

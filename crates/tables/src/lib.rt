@@ -5,6 +5,7 @@ ghost use Rattle.tables.specs.Refusal.{readSetOf};
 
 mod good;
 mod reader;
+pub mod refusals;
 
 // Tables and numbers that decide what a spot is. `scale` and `geometry` have rows a, b, c, d of three entries each; `spatial` has rows w1 to w5 of
 // nine entries each for scale index 1, then for 2; `numbers` are log sigma origin, curvature epsilon, fit T min, T max, accepted sigma min, max,

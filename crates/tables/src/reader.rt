@@ -1,44 +1,13 @@
-// The parts of a set's record: words, floats, order bytes and spare bytes, each by its place.
+// The parts of a set's record: floats, order bytes and spare bytes, each by its place.
 ghost use mathlib.Core.Path.{_≡_};
-ghost use Prim.Native.Nat.{_+_, _*_, _≤_, _<_};
+ghost use Prim.Native.Nat.{_+_, _*_, _≤_};
 ghost use lib.ListN.{length, take, drop};
-ghost use lib.Ieee.{binary32, ofBits};
-ghost use Rattle.tables.specs.Set.{wordAt, floatsAt, setOf, spareZero};
+ghost use Rattle.tables.specs.Set.{floatsAt, setOf, spareZero};
 ghost use Rattle.tables.specs.Refusal.{refusedSet};
 use crate::Checked;
 use crate::Refusal;
 use crate::Set;
 use crate::SetRead;
-
-// The byte as a word.
-fn wide(byte: u8) -> u32
-    ensures { λ r. ⌜ (r ≡ byte) × (r < 256) ⌝ }
-{
-    byte as u32
-}
-
-// The little-endian word at byte 4 * i.
-fn word_at(bytes: &[u8], i: usize) -> u32
-    requires { ⌜ 4 * i + 4 ≤ length (now bytes) ⌝ }
-    ensures { λ r. ⌜ r ≡ wordAt (now (bytes .entry)) i ⌝ }
-{
-    let at = 4 * i;
-    let a = wide(bytes[at]);
-    let b = wide(bytes[at + 1]);
-    let c = wide(bytes[at + 2]);
-    let d = wide(bytes[at + 3]);
-    a + 256 * b + 65536 * c + 16777216 * d
-}
-
-// The float with the bit pattern `word`, whichever it is.
-fn float_of(word: u32) -> f32
-    ensures { λ r. ⌜ r ≡ ofBits binary32 word ⌝ }
-{
-    if 0x7f80_0000 < word % 0x8000_0000 {
-        return 0.0 / 0.0;
-    }
-    f32::from_bits(word)
-}
 
 // As many floats as `out` holds, from the i-th word on.
 fn read_floats(bytes: &[u8], i: usize, out: &mut [f32])
@@ -47,7 +16,7 @@ fn read_floats(bytes: &[u8], i: usize, out: &mut [f32])
 {
     let mut k: usize = 0;
     while k < out.len() {
-        out[k] = float_of(word_at(bytes, i + k));
+        out[k] = words::float_from(bytes, 4 * (i + k));
         k += 1;
     }
 }

@@ -15,7 +15,8 @@ use Rattle.float.specs.Num.{f0}
 use Rattle.float.proofs.Floats.{zero-eq-zero}
 use Rattle.fit.specs.Near.{Near, same, zeros}
 use Rattle.record.specs.declared.Record.{Record}
-use Rattle.record.specs.Layout.{wordBytes, floatBytes, floats4, recordBytes, bytesOf, laid}
+use Rattle.words.specs.Words.{wordBytes, floatBytes}
+use Rattle.record.specs.Layout.{floats4, recordBytes, bytesOf, laid}
 use Rattle.record.proofs.LayoutLaws.{length-recordBytes, length-bytesOf}
 use Rattle.alp.specs.Level.{Maps}
 use Rattle.alp.specs.Due.{due}

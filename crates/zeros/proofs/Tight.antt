@@ -16,7 +16,8 @@ use Rattle.fit.specs.Band.{bandBy, finiteCubic, signOf, stationaryOf, betterBy,
 use Rattle.fit.specs.Owns.{ownsBy}
 use Rattle.refine.specs.Refine.{valueOf, valuesOf, edgeOf, indexOf, sumFrom, blockOf, termOf, rowSumBy, spatialBy, denominatorOf, steepOf, deltaYOf, deltaXOf, nearby, placedOf, movedOf, refineBy}
 use Rattle.record.specs.Readable as Readable
-use Rattle.record.specs.Layout.{wordBytes, floatBytes, floats4, recordBytes, bytesOf}
+use Rattle.words.specs.Words.{wordBytes, floatBytes}
+use Rattle.record.specs.Layout.{floats4, recordBytes, bytesOf}
 use Rattle.pixel.specs.Gate.{sigmaOf, peakOf, strongOf, curvedOf, gateBy}
 use Rattle.pixel.specs.Ring.{allOf, beatsBy, ringBy}
 use Rattle.pixel.specs.Verdict.{cubicsOf, wholePlace, wholeOf, anchorOf, polarityOf, recordOf, admitOf, verdictBy}

@@ -2,8 +2,8 @@
 use borrow.Author.Needs.{needs}
 use native.Mathlib.Nat.{add-assoc}
 use Rattle.record.specs.Layout.{floats4}
-use Rattle.record.proofs.Stores.{sets-append}
-use Rattle.record.proofs.LayoutLaws.{length-floatBytes}
+use Rattle.words.proofs.Stores.{sets-append}
+use Rattle.words.proofs.WordsLaws.{length-floatBytes}
 use Rattle.record.proofs.put_floats.Statement.{statement}
 use Rattle.record.proofs.put_floats.Tie as tie
 

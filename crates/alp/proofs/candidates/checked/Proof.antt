@@ -1,7 +1,8 @@
 -- `candidates::checked` meets its contract: each return follows from the tests on the way to it.
 use native.Mathlib.Omega.{arith}
 use borrow.Author.Tests.{lt-ltb, le-ltb, eq-eqb, ne-eqb, not-true, not-false}
-use Rattle.alp.specs.Detect.{detectChecks, unless}
+use Rattle.tables.specs.Refusal.{unless}
+use Rattle.alp.specs.Detect.{detectChecks}
 use Rattle.alp.proofs.LevelLaws.{area}
 use borrow.Author.Needs.{needs}
 use Rattle.alp.proofs.candidates.checked.Statement.{statement}

@@ -1,7 +1,8 @@
 -- `check::checked` meets its contract: each return follows from the tests on the way to it.
 use borrow.Author.Needs.{needs}
 use borrow.Author.Tests.{lt-ltb, le-ltb, eq-eqb, ne-eqb, not-true, not-false}
-use Rattle.join.specs.Join.{joinChecks, unless}
+use Rattle.tables.specs.Refusal.{unless}
+use Rattle.join.specs.Join.{joinChecks}
 use Rattle.join.proofs.CheckLaws.{too-short, long-enough}
 use Rattle.join.proofs.check.checked.Statement.{statement}
 use Rattle.join.proofs.check.checked.Tie as tie

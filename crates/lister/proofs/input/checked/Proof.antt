@@ -1,6 +1,6 @@
 -- `input::checked` meets its contract.
 use borrow.Author.Tests.{lt-ltb, le-ltb, eq-eqb, ne-eqb}
-use Rattle.alp.specs.Detect.{unless}
+use Rattle.tables.specs.Refusal.{unless}
 use Rattle.lister.specs.Input.{listChecks}
 use borrow.Author.Needs.{needs}
 use Rattle.lister.proofs.input.checked.Statement.{statement}

@@ -1,7 +1,7 @@
 -- `gate::may_list` meets its contract.
 use mathlib.Core.Path.{sym, _∙_}
 use borrow.Author.Tests.{not-true}
-use Rattle.pixel.proofs.Tests.{either-false}
+use Rattle.float.proofs.Bools.{neither}
 use Rattle.pixel.proofs.GateLaws.{unowned-lists-nothing, may-list-by-branches}
 use borrow.Author.Needs.{needs}
 use Rattle.pixel.proofs.gate.may_list.Statement.{statement}
@@ -17,7 +17,7 @@ returns : tie.Need-returns
 returns c =
     let low = c .before .before .owns-scale-extremum in
     let high = c .before .owns-scale-extremum2 in
-    let none = either-false (low .result) (high .result) (not-true _ (c .if1 .taken)) in
+    let none = neither (low .result) (high .result) (not-true _ (c .if1 .taken)) in
     sym (unowned-lists-nothing _ _ _ (sym (low .ensures) ∙ none .0) (sym (high .ensures) ∙ none .1))
 
 apply-cubic-transform-requires : tie.Need-apply-cubic-transform-requires

@@ -1,7 +1,8 @@
 -- `halve::checked` meets its contract: each return follows from the tests on the way to it.
 use native.Mathlib.Omega.{arith}
 use borrow.Author.Tests.{lt-ltb, le-ltb, eq-eqb, ne-eqb}
-use Rattle.pyramid.specs.Pyramid.{halfOf, downsampleChecks, unless, needed}
+use Rattle.tables.specs.Refusal.{unless}
+use Rattle.pyramid.specs.Pyramid.{halfOf, downsampleChecks, needed}
 use Rattle.pyramid.proofs.HalvedLaws.{area, half-twice}
 use borrow.Author.Needs.{needs}
 use Rattle.pyramid.proofs.halve.checked.Statement.{statement}

@@ -20,14 +20,14 @@ loop-holds : tie.Need-loop-holds Inv-loop μ-loop
 unfolding floatsAt
 loop-holds c = (omega arith, refl, refl)
 
-add-word-at : tie.Need-add-word-at Inv-loop μ-loop
-add-word-at c = omega arith
+add-float-from : tie.Need-add-float-from Inv-loop μ-loop
+add-float-from c = omega arith
 
-word-at-requires : tie.Need-word-at-requires Inv-loop μ-loop
-word-at-requires c κs = omega arith
+mul-float-from : tie.Need-mul-float-from Inv-loop μ-loop
+mul-float-from c = omega arith
 
-float-of-requires : tie.Need-float-of-requires Inv-loop μ-loop
-float-of-requires c κs = search needs
+float-from-requires : tie.Need-float-from-requires Inv-loop μ-loop
+float-from-requires c κs = omega arith
 
 mul-out : tie.Need-mul-out Inv-loop μ-loop
 mul-out c = search needs
@@ -43,11 +43,11 @@ loop-less c = simp length-set (omega arith)
 
 loop-again : tie.Need-loop-again Inv-loop μ-loop
 loop-again c =
-    let l = c .before .before .before .loop in
+    let l = c .before .before .loop in
     let h : l .k < length (l .out) = omega arith in (
       simp length-set (omega arith),
       simp length-set (omega arith),
-      rw (c .float-of .ensures, c .before .word-at .ensures) (filled-next (l .out) _ (l .k) _ h (l .inv .2) ∙ floats-next (l .k) _ _),
+      rw (c .float-from .ensures) (filled-next (l .out) _ (l .k) _ h (l .inv .2) ∙ floats-next (l .k) _ _),
     )
 
 same-length : tie.Need-same-length Inv-loop μ-loop
@@ -66,9 +66,9 @@ read-floats-spec =
     Inv-loop
     μ-loop
     loop-holds
-    add-word-at
-    word-at-requires
-    float-of-requires
+    add-float-from
+    mul-float-from
+    float-from-requires
     mul-out
     slice-write-out
     add-k

@@ -1,0 +1,35 @@
+// The number and the index of a refusal, as words that a caller of another language or a printed line can carry.
+ghost use mathlib.Core.Path.{_≡_};
+ghost use Prim.Native.Nat.{_<_};
+ghost use Rattle.tables.specs.Refusal.{number, index};
+use crate::Refusal;
+
+// The number of a refusal: one digit.
+pub fn number_of(why: Refusal) -> u32
+    ensures { λ r. ⌜ (r ≡ number why) × (r < 10) ⌝ }
+{
+    match why {
+        Refusal::Size => 1,
+        Refusal::Level => 2,
+        Refusal::Octave => 3,
+        Refusal::BadSet => 4,
+        Refusal::Records(_) => 5,
+        Refusal::Room => 6,
+        Refusal::NoSize => 7,
+    }
+}
+
+// The index that goes with it.
+pub fn index_of(why: Refusal) -> u64
+    ensures { λ r. ⌜ r ≡ index why ⌝ }
+{
+    match why {
+        Refusal::Records(i) => i as u64,
+        Refusal::Size => 0,
+        Refusal::Level => 0,
+        Refusal::Octave => 0,
+        Refusal::BadSet => 0,
+        Refusal::Room => 0,
+        Refusal::NoSize => 0,
+    }
+}

@@ -1,0 +1,59 @@
+-- Laws of a word's and a float's bytes: how many they are, and that what is written is read back. Assumes nothing.
+use Prim.Native.Nat.{ℕ, _+_, _*_, _/_, _%_, _^_, _<_}
+use native.Mathlib.Nat.{add-assoc, div-div-eq-div-mul, mod-eq-of-lt}
+use native.Mathlib.Omega.{arith}
+use mathlib.Core.Path.{_≡_, refl, ap, _∙_}
+use mathlib.Core.List.{List, _++_}
+use lib.ListN.{length}
+use lib.Seq.{getD-append-add}
+use lib.Dec.{T}
+use lib.Ieee.{Float, binary32, fits, ofBits, toBits}
+use lib.Ieee.Bits.{ofBits-toBits, toBits-lt}
+use Rattle.words.specs.Words.{wordBytes, floatBytes, wordFrom, floatFrom}
+
+-- ---- lengths
+
+pub length-wordBytes : (v : ℕ) → length (wordBytes v) ≡ 4
+unfolding wordBytes
+length-wordBytes v = refl
+
+pub length-floatBytes : (x : Float) → length (floatBytes x) ≡ 4
+unfolding floatBytes wordBytes
+length-floatBytes x = refl
+
+-- ---- reading past a front
+
+pub wordFrom-append : (front b : List ℕ) (k : ℕ) → wordFrom (front ++ b) (length front + k) ≡ wordFrom b k
+unfolding wordFrom
+wordFrom-append front b k = simp (add-assoc, getD-append-add)
+
+pub floatFrom-append : (front b : List ℕ) (k : ℕ) → floatFrom (front ++ b) (length front + k) ≡ floatFrom b k
+unfolding floatFrom
+floatFrom-append front b k = ap (ofBits binary32) (wordFrom-append front b k)
+
+-- ---- written and read
+
+digit : (n : ℕ) → n % 256 + 256 * (n / 256) ≡ n
+digit n = omega arith
+
+summed : (v p q s a b c : ℕ) → a + 256 * p ≡ v → b + 256 * q ≡ p → c + 256 * s ≡ q → a + 256 * b + 65536 * c + 16777216 * s ≡ v
+summed v p q s a b c i j k = omega arith
+
+four-digits : (v : ℕ) → v < 2 ^ 32 → v % 256 + 256 * (v / 256 % 256) + 65536 * (v / 65536 % 256) + 16777216 * (v / 16777216 % 256) ≡ v
+four-digits v h =
+    let p : ℕ = v / 256 in
+    let q : ℕ = v / 65536 in
+    let s : ℕ = v / 16777216 in
+    let q-is : p / 256 ≡ q = div-div-eq-div-mul v 256 256 in
+    let s-is : q / 256 ≡ s = div-div-eq-div-mul v 65536 256 in
+    let last : s % 256 ≡ s = mod-eq-of-lt (omega arith) in
+    rw last (summed v p q s (v % 256) (p % 256) (q % 256) (digit v) (rw q-is at (digit p)) (rw s-is at (digit q)))
+
+pub wordFrom-wordBytes : (v : ℕ) (rest : List ℕ) → v < 2 ^ 32 → wordFrom (wordBytes v ++ rest) 0 ≡ v
+unfolding wordFrom wordBytes
+wordFrom-wordBytes v rest h = four-digits v h
+
+-- NaN too, which is written as the one pattern 0x7fc00000
+pub floatFrom-floatBytes : (x : Float) (rest : List ℕ) → T (fits binary32 x) → floatFrom (floatBytes x ++ rest) 0 ≡ x
+unfolding floatFrom floatBytes
+floatFrom-floatBytes x rest f = ap (ofBits binary32) (wordFrom-wordBytes (toBits binary32 x) rest (toBits-lt binary32 x f)) ∙ ofBits-toBits binary32 x f
