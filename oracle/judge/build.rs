@@ -1,18 +1,16 @@
 //! Builds the published text twice: as it stands, for a few sets of real constants, and with the set read at run time.
 
+use places::{Edit, Place, edited, published_name, sha256};
 use std::env;
 use std::fmt::Write as _;
 use std::fs;
 use std::path::{Path, PathBuf};
-use substitutions::{How, Substitution};
+use substitutions::Substitution;
 
 #[path = "src/fixed_sets.rs"]
 mod fixed_sets;
-#[path = "src/sha256.rs"]
-mod sha256;
 mod substitutions;
 
-const PUBLISHED_NAME: &str = "src--crates--openmvg-features--src--extraction--alp--";
 const PUBLISHED: [&str; 3] = ["scale_fit.rs", "reference.rs", "stream.rs"];
 const DOCUMENT: [&str; 7] = [
     "admission.rs",
@@ -24,12 +22,27 @@ const DOCUMENT: [&str; 7] = [
     "steps.rs",
 ];
 
-/// A deliberate break: in `file`, `old` stands once and becomes `new`.
+/// A deliberate break of one file: edits at places of a published one, or in our own a text that stands once and what it becomes.
+#[derive(Default)]
 struct Break {
     name: String,
     file: String,
+    edits: Vec<Edit>,
     old: String,
     new: String,
+}
+
+impl Break {
+    /// The file's text with the break in it.
+    fn applied(&self, sound: &str) -> Result<String, String> {
+        if !self.edits.is_empty() {
+            return edited(sound, &self.edits.iter().collect::<Vec<_>>());
+        }
+        match sound.matches(&self.old).count() {
+            1 => Ok(sound.replacen(&self.old, &self.new, 1)),
+            times => Err(format!("its old text stands {times} times")),
+        }
+    }
 }
 
 fn main() {
@@ -45,7 +58,7 @@ fn main() {
     let published = published_folder(&crate_folder);
     let source = |file: &str| {
         if PUBLISHED.contains(&file) {
-            published.join(format!("{PUBLISHED_NAME}{file}.txt"))
+            published.join(published_name(file))
         } else {
             crate_folder.join("src/document").join(file)
         }
@@ -84,7 +97,7 @@ fn read(path: &Path) -> String {
     fs::read_to_string(path).unwrap_or_else(|error| panic!("{}: {error}", path.display()))
 }
 
-/// Reads every break, checks that each old text stands once, and gives the one that JUDGE_BREAK names.
+/// Reads every break, tries each on its file, and gives the one that JUDGE_BREAK names.
 fn chosen_break(crate_folder: &Path, source: &dyn Fn(&str) -> PathBuf) -> Option<Break> {
     let path =
         env::var_os("JUDGE_BREAKS").map_or_else(|| crate_folder.join("breaks.txt"), PathBuf::from);
@@ -94,13 +107,15 @@ fn chosen_break(crate_folder: &Path, source: &dyn Fn(&str) -> PathBuf) -> Option
     };
     let mut breaks = parse_breaks(&read(&path));
     for (index, entry) in breaks.iter().enumerate() {
-        let times = read(&source(&entry.file)).matches(&entry.old).count();
-        assert!(
-            times == 1,
-            "break {} ({}): its old text stands {times} times",
-            index + 1,
-            entry.name
-        );
+        let sound = cut(&entry.file, read(&source(&entry.file)));
+        if let Err(fault) = entry.applied(&sound) {
+            panic!(
+                "break {} ({}): {}: {fault}",
+                index + 1,
+                entry.name,
+                entry.file
+            );
+        }
     }
     assert!(
         number <= breaks.len(),
@@ -110,36 +125,45 @@ fn chosen_break(crate_folder: &Path, source: &dyn Fn(&str) -> PathBuf) -> Option
     (number > 0).then(|| breaks.swap_remove(number - 1))
 }
 
-/// Lines `# name`, `file: `, `old: `, `new: `; in the last two \n is a line's end.
+/// The entries of breaks.txt, whose head says how they are written.
 fn parse_breaks(text: &str) -> Vec<Break> {
     let mut breaks: Vec<Break> = Vec::new();
-    for line in text.lines().filter(|line| !line.trim().is_empty()) {
+    let entries = text.lines().skip_while(|line| !line.starts_with("# "));
+    for line in entries.filter(|line| !line.trim().is_empty()) {
         if let Some(name) = line.strip_prefix("# ") {
-            let empty = String::new;
             breaks.push(Break {
                 name: name.into(),
-                file: empty(),
-                old: empty(),
-                new: empty(),
+                ..Break::default()
             });
-            continue;
-        }
-        let entry = breaks.last_mut().expect("breaks.txt opens with a name");
-        let (key, value) = line
-            .split_once(':')
-            .unwrap_or_else(|| panic!("breaks.txt: {line}"));
-        let value = value
-            .strip_prefix(' ')
-            .unwrap_or(value)
-            .replace("\\n", "\n");
-        match key {
-            "file" => entry.file = value.trim().into(),
-            "old" => entry.old = value,
-            "new" => entry.new = value,
-            _ => panic!("breaks.txt: {line}"),
+        } else if let Some(entry) = breaks.last_mut() {
+            read_line(entry, line).unwrap_or_else(|fault| panic!("break {}: {fault}", entry.name));
         }
     }
     breaks
+}
+
+/// One line of an entry, its key and value.
+fn read_line(entry: &mut Break, line: &str) -> Result<(), String> {
+    let (key, value) = line.split_once(':').ok_or(line)?;
+    let value = value.strip_prefix(' ').unwrap_or(value);
+    match key {
+        "at" => {
+            let (file, place) = value.split_once(' ').ok_or(line)?;
+            entry.file = file.into();
+            entry.edits.push(Edit {
+                at: Place::read(place)?,
+                new: String::new(),
+            });
+        }
+        "file" => entry.file = value.trim().into(),
+        "old" => entry.old = value.replace("\\n", "\n"),
+        "new" => match entry.edits.last_mut() {
+            Some(edit) => edit.new = value.into(),
+            None => entry.new = value.replace("\\n", "\n"),
+        },
+        _ => return Err(line.into()),
+    }
+    Ok(())
 }
 
 fn write_digests(text: &mut String, source: &dyn Fn(&str) -> PathBuf) {
@@ -163,7 +187,7 @@ fn write_document(
         if let Some(entry) = broken.filter(|entry| entry.file == file) {
             let sound = read(&path);
             path = out.join(file);
-            fs::write(&path, sound.replacen(&entry.old, &entry.new, 1)).unwrap();
+            fs::write(&path, entry.applied(&sound).unwrap()).unwrap();
         }
         let name = file.trim_end_matches(".rs");
         let seen = if file == "steps.rs" {
@@ -222,25 +246,17 @@ fn write_run(
     ];
     let mut modules = Vec::new();
     for (file, list) in PUBLISHED.iter().zip(substitutions) {
-        let mut rewritten = cut(file, read(&source(file)));
-        let mut sound = rewritten.clone();
-        if let Some(entry) = broken.filter(|entry| entry.file == *file) {
-            assert!(
-                rewritten.contains(&entry.old),
-                "break {}: its place is cut away",
-                entry.name
-            );
-            rewritten = rewritten.replacen(&entry.old, &entry.new, 1);
-        }
+        let published = cut(file, read(&source(file)));
+        let edits: Vec<Edit> = list.iter().filter_map(edit_of).collect();
+        let mut edits: Vec<&Edit> = edits.iter().collect();
+        let sound = edited(&published, &edits);
+        let sound = sound.unwrap_or_else(|fault| panic!("substitutions.rs: {file}: {fault}"));
+        check_times(file, sound, list);
+        let broken_here = broken.filter(|entry| entry.file == *file);
+        edits.extend(broken_here.iter().flat_map(|entry| &entry.edits));
+        let mut rewritten = edited(&published, &edits).unwrap();
         for one in list {
-            let times = substitute(&mut sound, one);
-            assert!(
-                times == one.times,
-                "{file}: {:?} stands {times} times, not {}",
-                one.old,
-                one.times
-            );
-            substitute(&mut rewritten, one);
+            rename(&mut rewritten, one);
         }
         let path = out.join(format!("run_{file}"));
         fs::write(&path, rewritten).unwrap();
@@ -280,46 +296,60 @@ fn write_build(
     writeln!(text, "}}").unwrap();
 }
 
+/// stream.rs up to its second pass; another file whole.
 fn cut(file: &str, mut text: String) -> String {
     if file == "stream.rs" {
-        let places: Vec<usize> = text
-            .match_indices(substitutions::STREAM_CUT)
-            .map(|(at, _)| at)
-            .collect();
-        assert!(
-            places.len() == 1,
-            "stream.rs: pass 2 opens {} times",
-            places.len()
+        let place = Place::read(substitutions::STREAM_CUT).and_then(|place| place.find(&text));
+        text.truncate(
+            place
+                .unwrap_or_else(|fault| panic!("STREAM_CUT: {fault}"))
+                .start,
         );
-        let line_before = text[..places[0] - 1].rfind('\n').unwrap() + 1;
-        text.truncate(line_before);
     }
     text
 }
 
-/// Replaces every match and says how many there were.
-fn substitute(text: &mut String, one: &Substitution) -> usize {
+/// The edit of a substitution that names a place.
+fn edit_of(one: &Substitution) -> Option<Edit> {
+    let Substitution::At(at, new) = one else {
+        return None;
+    };
+    let at = Place::read(at).unwrap_or_else(|fault| panic!("substitutions.rs: {fault}"));
+    let new = new.to_string();
+    Some(Edit { at, new })
+}
+
+/// Stops the build unless each name stands as often as its substitution says.
+fn check_times(file: &str, mut sound: String, list: &[Substitution]) {
+    for one in list {
+        let found = rename(&mut sound, one);
+        if let Substitution::Word(old, _, times) | Substitution::Call(old, _, times) = one {
+            assert!(
+                found == *times,
+                "{file}: {old} stands {found} times, not {times}"
+            );
+        }
+    }
+}
+
+/// Replaces every match of a name and says how many there were.
+fn rename(text: &mut String, one: &Substitution) -> usize {
+    let (old, new, whole) = match one {
+        Substitution::Word(old, new, _) => (*old, *new, true),
+        Substitution::Call(old, new, _) => (*old, *new, false),
+        Substitution::At(..) => return 0,
+    };
     let is_name = |c: char| c.is_alphanumeric() || c == '_';
     let mut out = String::new();
     let (mut rest, mut times) = (text.as_str(), 0);
-    while let Some(at) = rest.find(one.old) {
-        let (before, after) = (&rest[..at], &rest[at + one.old.len()..]);
-        out.push_str(before);
-        rest = after;
+    while let Some(at) = rest.find(old) {
+        let (before, after) = (&rest[..at], &rest[at + old.len()..]);
         let inside_name = before.ends_with(is_name) || after.starts_with(is_name);
-        if matches!(one.how, How::Word) && inside_name {
-            out.push_str(one.old);
-            continue;
-        }
-        times += 1;
-        out.push_str(one.new);
-        if matches!(one.how, How::Statement | How::ConstantToFunction) {
-            let end = rest.find(";\n").expect("a statement ends");
-            if matches!(one.how, How::ConstantToFunction) {
-                write!(out, "{} }}", &rest[..end]).unwrap();
-            }
-            rest = &rest[end + 1..];
-        }
+        let renamed = !(whole && inside_name);
+        times += usize::from(renamed);
+        out.push_str(before);
+        out.push_str(if renamed { new } else { old });
+        rest = after;
     }
     out.push_str(rest);
     *text = out;

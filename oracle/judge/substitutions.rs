@@ -1,301 +1,190 @@
-//! What the build with a set read at run time replaces in the published text, and how often each must match.
+//! What the build with a set read at run time replaces in the published text.
 
-/// How one replacement finds its place.
-pub enum How {
-    /// The very text.
-    Text,
-    /// A whole identifier.
-    Word,
-    /// From the text to the end of its statement.
-    Statement,
-    /// A constant's head; the statement's end becomes a closing brace.
-    ConstantToFunction,
+/// One replacement.
+pub enum Substitution {
+    /// The text at a place of the published file becomes new text; both are written as in breaks.txt.
+    At(&'static str, &'static str),
+    /// A whole identifier becomes another text, so many times.
+    Word(&'static str, &'static str, usize),
+    /// A method's call becomes another's, so many times.
+    Call(&'static str, &'static str, usize),
 }
+use Substitution::{At, Call, Word};
 
-pub struct Substitution {
-    pub how: How,
-    pub old: &'static str,
-    pub new: &'static str,
-    pub times: usize,
-}
-
-const fn text(old: &'static str, new: &'static str, times: usize) -> Substitution {
-    Substitution {
-        how: How::Text,
-        old,
-        new,
-        times,
-    }
-}
-const fn word(old: &'static str, new: &'static str, times: usize) -> Substitution {
-    Substitution {
-        how: How::Word,
-        old,
-        new,
-        times,
-    }
-}
-const fn statement(old: &'static str, new: &'static str) -> Substitution {
-    Substitution {
-        how: How::Statement,
-        old,
-        new,
-        times: 1,
-    }
-}
-const fn function(old: &'static str, new: &'static str) -> Substitution {
-    Substitution {
-        how: How::ConstantToFunction,
-        old,
-        new,
-        times: 1,
-    }
-}
-
+/// What the published text's own `use` of the tables gives way to.
 const NAMES: &str = "use crate::admission::admits;\nuse crate::counting::{self, let_pass, said};\nuse crate::here::{ByRules as _, SumByRules as _, here};\n";
 
 pub const SCALE_FIT: &[Substitution] = &[
     // The set's names.
-    statement("use super::geometry_tables::{", ""),
-    statement("use super::tables::{", NAMES),
-    word("SIGMAS", "here().sigmas", 13),
-    word("ALP_SCALE_CUBIC_BASE", "here().scale", 1),
-    word("ALP_SPATIAL_QUADRATIC_BASE", "here().spatial", 1),
-    word("Q_SAMPLE_ORDER", "here().order", 1),
-    word("ALP_GEOMETRY_SCALE_CUBIC_LOG2", "here().geometry", 1),
-    word(
+    At("39.1+405 3b49c0f675c2", ""),
+    At("45.1+94 3d08e8e03318", NAMES),
+    Word("SIGMAS", "here().sigmas", 13),
+    Word("ALP_SCALE_CUBIC_BASE", "here().scale", 1),
+    Word("ALP_SPATIAL_QUADRATIC_BASE", "here().spatial", 1),
+    Word("Q_SAMPLE_ORDER", "here().order", 1),
+    Word("ALP_GEOMETRY_SCALE_CUBIC_LOG2", "here().geometry", 1),
+    Word(
         "ALP_GEOMETRY_LOG_SIGMA_ORIGIN",
         "here().log_sigma_origin",
         3,
     ),
-    word(
+    Word(
         "ALP_GEOMETRY_CURVATURE_EPSILON",
         "here().curvature_epsilon",
         4,
     ),
-    word("ALP_GEOMETRY_FIT_T_MIN", "here().fit_t_min", 2),
-    word("ALP_GEOMETRY_FIT_T_MAX", "here().fit_t_max", 2),
-    word(
+    Word("ALP_GEOMETRY_FIT_T_MIN", "here().fit_t_min", 2),
+    Word("ALP_GEOMETRY_FIT_T_MAX", "here().fit_t_max", 2),
+    Word(
         "ALP_GEOMETRY_ACCEPT_SIGMA_MIN",
         "here().accept_sigma_min",
         2,
     ),
-    word(
+    Word(
         "ALP_GEOMETRY_ACCEPT_SIGMA_MAX",
         "here().accept_sigma_max",
         2,
     ),
-    word("ALP_GEOMETRY_BLEND_BETA", "here().blend_beta", 6),
-    word("ALP_GEOMETRY_BLEND_BOOST", "here().blend_boost", 4),
-    word(
+    Word("ALP_GEOMETRY_BLEND_BETA", "here().blend_beta", 6),
+    Word("ALP_GEOMETRY_BLEND_BOOST", "here().blend_boost", 4),
+    Word(
         "ALP_GEOMETRY_COMPATIBILITY_LOWER",
         "here().compatibility_lower",
         1,
     ),
-    word(
+    Word(
         "ALP_GEOMETRY_COMPATIBILITY_UPPER",
         "here().compatibility_upper",
         1,
     ),
-    word(
+    Word(
         "ALP_GEOMETRY_FINAL_MOVE_CAP_LOG2",
         "here().final_move_cap_log2",
         2,
     ),
-    // Constants worked out from the set.
-    function(
-        "const PROFILE_X: [f32; 4] =",
-        "fn profile_x() -> [f32; 4] {",
-    ),
-    function(
-        "const PROFILE_MEAN_X: f32 =",
-        "fn profile_mean_x() -> f32 {",
-    ),
-    function(
-        "const PROFILE_DX: [f32; 4] =",
-        "fn profile_dx() -> [f32; 4] {",
-    ),
-    function(
-        "const PROFILE_X_ENERGY: f32 =",
-        "fn profile_x_energy() -> f32 {",
-    ),
-    word("PROFILE_X", "profile_x()", 6),
-    word("PROFILE_MEAN_X", "profile_mean_x()", 5),
-    word("PROFILE_DX", "profile_dx()", 10),
-    word("PROFILE_X_ENERGY", "profile_x_energy()", 1),
+    // Constants worked out from the set become functions: the head, and the statement's end.
+    At("228.1+27 fb96e47d9974", "fn profile_x() -> [f32; 4] {"),
+    At("233.2+1 3b43ad880379", " }"),
+    At("234.1+27 c3ed4885f9a0", "fn profile_mean_x() -> f32 {"),
+    At("234.59+1 c61f5fdc1987", " }"),
+    At("235.1+28 c03aa0691385", "fn profile_dx() -> [f32; 4] {"),
+    At("240.2+1 3b43ad880379", " }"),
+    At("241.1+29 95817a38b681", "fn profile_x_energy() -> f32 {"),
+    At("246.3+1 6b383b1df9b9", " }"),
+    Word("PROFILE_X", "profile_x()", 6),
+    Word("PROFILE_MEAN_X", "profile_mean_x()", 5),
+    Word("PROFILE_DX", "profile_dx()", 10),
+    Word("PROFILE_X_ENERGY", "profile_x_energy()", 1),
     // Document 01's named differences.
-    text(".max(", ".max_here(", 8),
-    text(".min(", ".min_here(", 4),
-    text(".clamp(", ".clamp_here(", 3),
-    text(".sum()", ".sum_here()", 1),
+    Call(".max(", ".max_here(", 8),
+    Call(".min(", ".min_here(", 4),
+    Call(".clamp(", ".clamp_here(", 3),
+    Call(".sum()", ".sum_here()", 1),
     // Two functions shown to the rest of the crate.
-    text(
-        "\nfn compute_geometry_poly_coeffs(",
-        "\npub(super) fn compute_geometry_poly_coeffs(",
-        1,
-    ),
-    text(
-        "\nfn profile_model_move(",
-        "\npub(super) fn profile_model_move(",
-        1,
-    ),
+    At("217.1+2 8df8623b6a7c", "pub(super) `old`"),
+    At("338.1+2 5e52e0a61703", "pub(super) `old`"),
     // Why a candidate is rejected.
-    text(
-        "if !gxx.is_finite()",
-        "if said(counting::HESSIAN, !gxx.is_finite())",
-        1,
+    At("487.8+16 c5bebd62093d", "said(counting::HESSIAN, `old`)"),
+    At("488.12+16 cf6c6b454ebd", "said(counting::HESSIAN, `old`)"),
+    At("489.12+16 0fb5a8f03963", "said(counting::HESSIAN, `old`)"),
+    At("490.12+17 d0d2b94074a5", "said(counting::HESSIAN, `old`)"),
+    At("491.12+18 3a3cc1a5efdb", "said(counting::HESSIAN, `old`)"),
+    At(
+        "492.12+13 f819688d98bb",
+        "said(counting::DETERMINANT, `old`)",
     ),
-    text(
-        "|| !gyy.is_finite()",
-        "|| said(counting::HESSIAN, !gyy.is_finite())",
-        1,
+    At(
+        "493.12+17 b08046c25215",
+        "said(counting::TRACE_SIGN, `old`)",
     ),
-    text(
-        "|| !gxy.is_finite()",
-        "|| said(counting::HESSIAN, !gxy.is_finite())",
-        1,
+    At(
+        "499.8+18 89dde4179124",
+        "said(counting::RATIO_NOT_FINITE, `old`)",
     ),
-    text(
-        "|| !tr_h.is_finite()",
-        "|| said(counting::HESSIAN, !tr_h.is_finite())",
-        1,
+    At(
+        "499.30+25 fddeb67518fc",
+        "said(counting::RATIO_ABOVE, `old`)",
     ),
-    text(
-        "|| !det_h.is_finite()",
-        "|| said(counting::HESSIAN, !det_h.is_finite())",
-        1,
+    At("508.8+15 7e0331d9a1ad", "said(counting::FIT, `old`)"),
+    At("509.12+15 c7fb01366c3b", "said(counting::FIT, `old`)"),
+    At("510.12+15 434e159d15ae", "said(counting::FIT, `old`)"),
+    At("511.12+24 44e752ddafa2", "said(counting::FIT, `old`)"),
+    At(
+        "512.12+19 f0ac937a3161",
+        "said(counting::DENOMINATOR, `old`)",
     ),
-    text(
-        "|| det_h < 1e-10\n",
-        "|| said(counting::DETERMINANT, det_h < 1e-10)\n",
-        1,
+    At("521.8+16 c28dab86bcb8", "said(counting::W1_SMALL, `old`)"),
+    At("521.28+17 88db541e660b", "said(counting::W1_SIGN, `old`)"),
+    At(
+        "529.8+20 f64fd4a434a2",
+        "said(counting::DISPLACEMENT_NOT_FINITE, `old`)",
     ),
-    text(
-        "|| !polarity_matches\n",
-        "|| said(counting::TRACE_SIGN, !polarity_matches)\n",
-        1,
+    At(
+        "529.32+20 aea7c2dcac08",
+        "said(counting::DISPLACEMENT_NOT_FINITE, `old`)",
     ),
-    text(
-        "if !ratio.is_finite() ",
-        "if said(counting::RATIO_NOT_FINITE, !ratio.is_finite()) ",
-        1,
+    At(
+        "533.8+32 b886ba7de1d7",
+        "said(counting::DISPLACEMENT_X, `old`)",
     ),
-    text(
-        "|| ratio > curv_ratio_thresh {",
-        "|| said(counting::RATIO_ABOVE, ratio > curv_ratio_thresh) {",
-        1,
-    ),
-    text(
-        "if !w1.is_finite()",
-        "if said(counting::FIT, !w1.is_finite())",
-        1,
-    ),
-    text(
-        "|| !w2.is_finite()",
-        "|| said(counting::FIT, !w2.is_finite())",
-        1,
-    ),
-    text(
-        "|| !w3.is_finite()",
-        "|| said(counting::FIT, !w3.is_finite())",
-        1,
-    ),
-    text(
-        "|| !denominator.is_finite()",
-        "|| said(counting::FIT, !denominator.is_finite())",
-        1,
-    ),
-    text(
-        "|| denominator < 1e-10\n",
-        "|| said(counting::DENOMINATOR, denominator < 1e-10)\n",
-        1,
-    ),
-    text(
-        "if w1.abs() < 1e-10 ",
-        "if said(counting::W1_SMALL, w1.abs() < 1e-10) ",
-        1,
-    ),
-    text(
-        "|| !polarity_matches {",
-        "|| said(counting::W1_SIGN, !polarity_matches) {",
-        1,
-    ),
-    text(
-        "if !delta_x.is_finite() ",
-        "if said(counting::DISPLACEMENT_NOT_FINITE, !delta_x.is_finite()) ",
-        1,
-    ),
-    text(
-        "|| !delta_y.is_finite() {",
-        "|| said(counting::DISPLACEMENT_NOT_FINITE, !delta_y.is_finite()) {",
-        1,
-    ),
-    text(
-        "if delta_x.abs() > MAX_DISPLACEMENT ",
-        "if said(counting::DISPLACEMENT_X, delta_x.abs() > MAX_DISPLACEMENT) ",
-        1,
-    ),
-    text(
-        "|| delta_y.abs() > MAX_DISPLACEMENT {",
-        "|| said(counting::DISPLACEMENT_Y, delta_y.abs() > MAX_DISPLACEMENT) {",
-        1,
+    At(
+        "533.44+32 a072666d8a55",
+        "said(counting::DISPLACEMENT_Y, `old`)",
     ),
 ];
 
 pub const REFERENCE: &[Substitution] = &[
     // The set's names.
-    statement("use super::tables::SIGMAS", NAMES),
-    word("SIGMAS", "here().sigmas", 15),
+    At("27.1+26 8c38895d93da", NAMES),
+    Word("SIGMAS", "here().sigmas", 15),
     // Document 01's named differences.
-    text(".max(", ".max_here(", 5),
-    text(".min(", ".min_here(", 3),
-    text(".clamp(", ".clamp_here(", 1),
-    text(
-        "&& refine_keypoint_2d(&mut geometry, &cache, params.curv_ratio_threshold)",
-        "&& refine_keypoint_2d(&mut geometry, &cache, params.curv_ratio_threshold)
+    Call(".max(", ".max_here(", 5),
+    Call(".min(", ".min_here(", 3),
+    Call(".clamp(", ".clamp_here(", 1),
+    At(
+        "255.28+70 e2156df08ed3",
+        "`old`
                         && admits(rows, cols, row * cols + col, &geometry, &center, |index| {
-                            samples(row + index / 3 - 1, col + index % 3 - 1)
+                            `240.33+49 bea8d7e13f5e`
                         })",
-        1,
     ),
     // Why a candidate is rejected.
-    text(
-        "(low..=high).contains(&sigma) ",
-        "let_pass(counting::WINDOW, (low..=high).contains(&sigma)) ",
-        1,
+    At(
+        "235.26+29 eae6b9eb9211",
+        "let_pass(counting::WINDOW, `old`)",
     ),
-    text("&& strong ", "&& let_pass(counting::PEAK, strong) ", 1),
-    text(
-        "&& curved ",
-        "&& let_pass(counting::curvature(curvature.is_finite(), polarity_matches), curved) ",
-        1,
+    At("235.59+6 0f2081eaa19d", "let_pass(counting::PEAK, `old`)"),
+    At(
+        "235.69+6 9eab7af79340",
+        "let_pass(counting::curvature(curvature.is_finite(), polarity_matches), `old`)",
     ),
-    text("&& owned)", "&& let_pass(counting::NOT_OWNED, owned))", 1),
-    text(
-        "if !beats_neighbor {",
-        "if said(counting::BAND_NOT_BEATEN, !beats_neighbor) {",
-        1,
+    At(
+        "235.79+5 ec0d4f8a6d71",
+        "let_pass(counting::NOT_OWNED, `old`)",
+    ),
+    At(
+        "189.16+15 99d5674504b3",
+        "said(counting::BAND_NOT_BEATEN, `old`)",
     ),
 ];
 
-/// Everything from the line before this one on is cut: pass 2 is left out.
-pub const STREAM_CUT: &str = "// Pass 2: orientation and description of kept keypoints\n";
+/// Everything from this place on is cut: pass 2 is left out.
+pub const STREAM_CUT: &str = "448.1+136 603f2bbc2e31";
 
 pub const STREAM: &[Substitution] = &[
     // The set's names.
-    statement("use super::tables::SIGMAS", NAMES),
-    word("SIGMAS", "here().sigmas", 4),
+    At("47.1+26 8c38895d93da", NAMES),
+    Word("SIGMAS", "here().sigmas", 4),
     // Document 01's named differences.
-    text(".max(", ".max_here(", 2),
-    text(".min(", ".min_here(", 1),
-    text(
-        "if refine_keypoint_2d(&mut geometry, &coeffs_cache, params.curv_ratio_threshold) {",
-        "if refine_keypoint_2d(&mut geometry, &coeffs_cache, params.curv_ratio_threshold)
+    Call(".max(", ".max_here(", 2),
+    Call(".min(", ".min_here(", 1),
+    At(
+        "438.89+1 e17c89a53989",
+        "
             && admits(log.rows, cols, row * cols + col, &geometry, &samples, |index| {
-                let (r, c) = (row + index / 3 - 1, col + index % 3 - 1);
-                core::array::from_fn(|level| log.line(level, c)[r])
+                `409.17+56 044465fbc18c`
+                `410.46+51 ea0e04b3ef05`
             })
-        {",
-        1,
+        ",
     ),
 ];

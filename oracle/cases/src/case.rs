@@ -1,15 +1,17 @@
 //! One case: a function with its whole input, made from a family, a seed and a number.
 
 use crate::maps::{self, Levels};
+use crate::mirrored;
 use crate::overshoot;
 use crate::random::Random;
 use crate::records;
+use crate::rounding;
 use crate::sets::{self, Set};
 use crate::turning;
 use crate::words::{self, FUNCTIONS};
 
 /// The families of cases. `inner` counts through the inner functions.
-pub const FAMILIES: [&str; 15] = [
+pub const FAMILIES: [&str; 19] = [
     "list",
     "detect",
     "join",
@@ -25,6 +27,10 @@ pub const FAMILIES: [&str; 15] = [
     "records",
     "floats",
     "steep",
+    "mirrored",
+    "cancelling",
+    "inflected",
+    "widest",
 ];
 
 /// A set, thresholds, and a map with its octave.
@@ -119,7 +125,11 @@ pub fn expand(family: &str, seed: u64, number: usize) -> Case {
             bytes: sets::record(random, number),
         },
         "wide" => wide(random, number),
+        "widest" => widest(random),
         "overshoot" => overshoot::correction(random),
+        "mirrored" => mirrored::correction(random),
+        "cancelling" => rounding::cancelling(random),
+        "inflected" => rounding::inflected(random),
         "records" => damaged_records(random),
         "floats" => {
             let (function, words) = words::many(random, number);
@@ -580,6 +590,27 @@ fn wide(random: &mut Random, number: usize) -> Case {
     Case::Detect {
         scene,
         room: 40 * 6000,
+        fill: 7,
+    }
+}
+
+/// A lattice of spots on the longest sides there are.
+fn widest(random: &mut Random) -> Case {
+    let (rows, cols) = (4096, 4096);
+    let set = sets::real(random);
+    let levels = maps::lattice(random, &set, rows, cols);
+    let [low, .., high] = set.sigmas;
+    let scene = Scene {
+        set,
+        thresholds: [0.0, 0.0, 10.0, low, high],
+        rows,
+        cols,
+        octave: random.below(6),
+        levels,
+    };
+    Case::Detect {
+        scene,
+        room: 40 * 100_000,
         fill: 7,
     }
 }

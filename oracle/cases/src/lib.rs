@@ -3,9 +3,11 @@
 pub mod case;
 pub mod edges;
 pub mod maps;
+mod mirrored;
 mod overshoot;
 pub mod random;
 pub mod records;
+mod rounding;
 pub mod sets;
 mod turning;
 pub mod words;

@@ -149,7 +149,7 @@ fn profiled(random: &mut Random, set: &Set, rows: usize, cols: usize) -> Levels 
 }
 
 /// Spikes on a lattice in all levels, times a profile: most of them are spots.
-fn lattice(random: &mut Random, set: &Set, rows: usize, cols: usize) -> Levels {
+pub fn lattice(random: &mut Random, set: &Set, rows: usize, cols: usize) -> Levels {
     let size = power(random.from_to(0, 12) as i32 - 6);
     let (down, right) = (random.from_to(2, 4), random.from_to(2, 4));
     let one_sign = random.once_in(2);

@@ -25,6 +25,7 @@ const USE: &str = "use: compare own [SEED [TIMES]]
      compare archive SEED TIMES               (built with the feature `archive`)
      compare probe SEED CASES_A_FUNCTION      (built with the feature `probe`)
      compare one FAMILY SEED NUMBER [PLACE VALUE_BITS] [-- PROGRAM [ARGUMENTS]]
+     compare widest SEED                      (the archive too where it is built in)
      compare store FILE [SEED]
      compare stored FILE";
 
@@ -51,6 +52,7 @@ fn main() -> ExitCode {
         #[cfg(feature = "probe")]
         Some("probe") if words.len() > 2 => probed::run(number(1, SEED), number(2, 1) as usize),
         Some("one") if words.len() > 3 => one(&words[1..]),
+        Some("widest") if words.len() > 1 => widest(number(1, SEED)),
         Some("store") if words.len() > 1 => store(words[1], number(2, SEED)),
         Some("stored") if words.len() > 1 => stored(words[1]),
         _ => {
@@ -206,6 +208,31 @@ fn one(words: &[&str]) -> bool {
         None => println!("{} does not offer it", subject.name()),
     }
     true
+}
+
+/// The one map with both sides longest: the streaming pass, and the archive where it is built in, against the reference.
+fn widest(seed: u64) -> bool {
+    let case = expand("widest", seed, 0);
+    let sound = answer(&mut Judge::sound(), &case).unwrap_or_default();
+    let reply: String = sound
+        .iter()
+        .take_while(|&&byte| byte != b':')
+        .map(|&byte| char::from(byte))
+        .collect();
+    let against = |name: &str, subject: &mut dyn Subject| {
+        let begun = Instant::now();
+        let given = answer(subject, &case).unwrap_or_default();
+        let fault = (sound != given).then(|| difference(&sound, &given));
+        let seen = format!("{reply}, {:.1} s", begun.elapsed().as_secs_f64());
+        own::told(name, fault, &seen)
+    };
+    #[cfg(feature = "archive")]
+    let archive = against("widest-archive", &mut subject::archive::Archive);
+    #[cfg(not(feature = "archive"))]
+    let archive = true;
+    let mut stream = Judge::sound();
+    stream.stream = true;
+    against("widest-streaming", &mut stream) & archive
 }
 
 /// Writes the stored list.

@@ -7,7 +7,7 @@ use subject::answer;
 use subject::stored::{Entry, Kept, Section};
 
 /// Cases of a family in a bounded run and in the stored list.
-pub const COUNTS: [(&str, usize); 15] = [
+pub const COUNTS: [(&str, usize); 18] = [
     ("list", 3000),
     ("detect", 1800),
     ("join", 1200),
@@ -23,6 +23,9 @@ pub const COUNTS: [(&str, usize); 15] = [
     ("records", 800),
     ("floats", 4000),
     ("steep", 60),
+    ("mirrored", 600),
+    ("cancelling", 400),
+    ("inflected", 1200),
 ];
 
 /// Scenes and corrections that are searched for edges, with the tries at each.

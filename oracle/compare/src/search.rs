@@ -87,7 +87,9 @@ fn ways_out(random: &mut Random, value: f32) -> Vec<f32> {
     ];
     let turn = random.below(ways.len());
     ways.rotate_left(turn);
-    ways
+    // A NaN made by arithmetic has no fixed sign: machines differ in it, and a bisection towards it goes by it.
+    let negative = |way: f32| if way.is_nan() { -f32::NAN } else { way };
+    ways.into_iter().map(negative).collect()
 }
 
 /// The knobs of both sides of some edges of the scene with this seed and number.

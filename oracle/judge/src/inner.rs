@@ -1,7 +1,7 @@
 //! The published text's inner functions, one at a time, under a set and rules; under `Rules::Published` a clamp with bad bounds panics, as there.
 
 use super::{reference, scale_fit, stream};
-use crate::extraction::ScaleSpaceKeypoint;
+use crate::shims::extraction::ScaleSpaceKeypoint;
 use crate::here::with;
 use crate::{Logs, Rules, Set};
 

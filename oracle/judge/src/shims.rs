@@ -87,11 +87,11 @@ pub mod blur {
             offset: usize,
         ) {
             let mut used = levels.into_iter();
-            let out = out.each_mut().map(|line| {
+            let lines = out.each_mut().map(|line| {
                 let used = used.next().unwrap_or(false);
                 used.then(|| &mut line[offset..offset + base.rows])
             });
-            self.blur_column_into(base, column, kernels, out);
+            self.blur_column_into(base, column, kernels, lines);
         }
 
         pub fn blur_column_into(
@@ -112,7 +112,7 @@ pub mod blur {
 }
 
 pub mod octave_dedup {
-    use crate::extraction::ScaleSpaceKeypoint;
+    use super::extraction::ScaleSpaceKeypoint;
 
     pub enum AdjacentOctavePreference {
         StrongestSignedResponse,

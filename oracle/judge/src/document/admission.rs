@@ -2,7 +2,7 @@
 
 use crate::Rules;
 use crate::counting;
-use crate::extraction::ScaleSpaceKeypoint;
+use crate::shims::extraction::ScaleSpaceKeypoint;
 use crate::here::here;
 use crate::record::{self, Spot, all_finite};
 

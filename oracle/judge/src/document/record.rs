@@ -1,6 +1,6 @@
 //! The spot record of 40 bytes: how it is laid, and when it is readable.
 
-use crate::extraction::ScaleSpaceKeypoint;
+use crate::shims::extraction::ScaleSpaceKeypoint;
 
 pub const SPOT: usize = 40;
 pub const SIZED: usize = 52;
