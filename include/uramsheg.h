@@ -1,6 +1,6 @@
 /* Uramsheg's detector: lists the spots of a gas map from its four blurred levels, and gives each its size. Proved in Rattle; see docs/PROMISES.md.
  *
- * Link with libalp_c.a (`rt staticlib alp_c` writes target/staticlib/libalp_c.a); it needs nothing else.
+ * Link with libalp_c.a (`tests/staticlib alp_c` writes target/staticlib/libalp_c.a); it needs nothing else.
  * Every call ends, whatever it is given. A slice is a pointer and its length in elements; a pointer must be valid for that length, and what is written to
  * must overlap nothing else.
  *

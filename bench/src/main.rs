@@ -59,7 +59,7 @@ fn time_sizes(set: &[u8; 528], side: usize, list: &[u8]) {
         let seconds = began.elapsed().as_secs_f64();
         (seconds, sized.chunks(SIZED_BYTES).filter(|record| record[48] == 1).count())
     });
-    let mut time_rust = |logs| {
+    let time_rust = |logs| {
         fastest(|| {
             let began = Instant::now();
             let given = spots.iter().filter(|s| fixed::correct(logs, SET, s.samples, s.sigma, s.is_max).is_ok()).count();

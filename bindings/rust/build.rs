@@ -11,7 +11,7 @@ fn link(feature: &str, name: &str) {
     let archive = folder.join(format!("lib{name}.a"));
     assert!(
         archive.is_file(),
-        "{} is absent: run `rt staticlib {name}`, or set URAMSHEG_ARCHIVES to its folder",
+        "{} is absent: run `tests/staticlib {name}`, or set URAMSHEG_ARCHIVES to its folder",
         archive.display()
     );
     println!("cargo:rerun-if-changed={}", archive.display());

@@ -13,7 +13,7 @@ fn main() {
     let archive = folder.join("libprobe.a");
     assert!(
         archive.is_file(),
-        "{} is absent: run `rt staticlib probe`",
+        "{} is absent: run `tests/staticlib probe`",
         archive.display()
     );
     println!("cargo:rerun-if-changed={}", archive.display());

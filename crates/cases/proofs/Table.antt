@@ -34,5 +34,5 @@ use Rattle.alp.specs.Due as dues
 use Rattle.cases.specs.Table.{Case, ofFloat, ofFit, ofSize, zeros, put, levelM, mapM, bytesM, mapCase, table}
 
 pub table-holds : map (λ (c : Case). c .given) table ≡ map (λ (c : Case). c .due) table
-unfolding table mapCase bytesM mapM levelM put zeros ofSize ofFit ofFloat floats.floatCases floats.definition fits.cases fits.valueCase fits.extremeCase fits.envelopeCase fits.floats fits.ofEnvelope fits.sigmasT fits.cubicT octaveCountOf octavesOf sizes.cases sizes.correctionCase sizes.ofCorrection dues.due dues.rowsDue dues.rowDue dues.pixelDue dues.listed dues.judgeOf pixelAt stencilOf sampleAt samplesOf placesOf cubicsOf wholePlace wholeOf anchorOf polarityOf recordOf admitOf verdictBy allOf beatsBy ringBy sigmaOf peakOf strongOf curvedOf gateBy refined.valueOf refined.valuesOf refined.edgeOf refined.indexOf refined.sumFrom refined.blockOf refined.termOf refined.rowSumBy refined.spatialBy refined.denominatorOf refined.steepOf refined.deltaYOf refined.deltaXOf refined.nearby refined.placedOf refined.movedOf refined.refineBy readable.finiteRecord readable.within readable.onSide readable.readable wordBytes floatBytes floats4 recordBytes bytesOf correctBy answerOf correctedBy movedOf inRange trusted chosenOf better flatter gained gainOf accepted sigmaAt placeOf rightPolarity derivativeOf modelMoveOf proposalOf modelOf signedRoot weightOf boundedOf blendBetaBy betaOf blendOf noBlend geometryOf profile.statisticBy profile.scaledBy profile.fittedOf profile.ratioOf profile.usableEnergy profile.usableLine profile.usableRoots profile.usableSamples profile.residualOf allUsable usable allBelow allAbove allFinite largestBy energyOf dotOf spreadOf meanOf sumOf quotientsOf productsOf rootsOf overOf lessOf squaresOf hornerOf coeffsOf rowOf discriminantOf curvatureOf bandBy extremeBy betterBy stationaryOf signOf finiteCubic envelopeBy shapeBy turnsOf firstOf secondOf turnOf putLow putHigh endsBy within ownsBy setT numbersT blockT row cubicT sigmasT values number good allSet rising every blank expOf expUp expDown belowOne capped seriesOf fixedOf log2Of log2Pos joined scaledOf digitsOf squared sqrtOf rootUnits inUnits scale radicand nearRoot nearer isqrt rootBy digit finite absOf minOf maxOf clampOf ofBits toBits ofFields ofInt odd size round add sub mul div neg lt le eq ne isNan leadingZeros
+unfolding table mapCase bytesM mapM levelM put zeros ofSize ofFit ofFloat floats.floatCases floats.definition fits.cases fits.valueCase fits.extremeCase fits.envelopeCase fits.ofEnvelope octaveCountOf octavesOf sizes.cases sizes.correctionCase sizes.ofCorrection dues.due dues.rowsDue dues.rowDue dues.pixelDue dues.listed dues.judgeOf pixelAt stencilOf sampleAt samplesOf placesOf cubicsOf wholePlace wholeOf anchorOf polarityOf recordOf admitOf verdictBy allOf beatsBy ringBy sigmaOf peakOf strongOf curvedOf gateBy refined.valueOf refined.valuesOf refined.edgeOf refined.indexOf refined.sumFrom refined.blockOf refined.termOf refined.rowSumBy refined.spatialBy refined.denominatorOf refined.steepOf refined.deltaYOf refined.deltaXOf refined.nearby refined.placedOf refined.movedOf refined.refineBy readable.finiteRecord readable.within readable.onSide readable.readable wordBytes floatBytes floats4 recordBytes bytesOf correctBy answerOf correctedBy movedOf inRange trusted chosenOf better flatter gained gainOf accepted sigmaAt placeOf rightPolarity derivativeOf modelMoveOf proposalOf modelOf signedRoot weightOf boundedOf blendBetaBy betaOf blendOf noBlend geometryOf profile.statisticBy profile.scaledBy profile.fittedOf profile.ratioOf profile.usableEnergy profile.usableLine profile.usableRoots profile.usableSamples profile.residualOf allUsable usable allBelow allAbove allFinite largestBy energyOf dotOf spreadOf meanOf sumOf quotientsOf productsOf rootsOf overOf lessOf squaresOf hornerOf coeffsOf rowOf discriminantOf curvatureOf bandBy extremeBy betterBy stationaryOf signOf finiteCubic envelopeBy shapeBy turnsOf firstOf secondOf turnOf putLow putHigh endsBy within ownsBy setT numbersT blockT row cubicT sigmasT values number good allSet rising every blank expOf expUp expDown belowOne capped seriesOf fixedOf log2Of log2Pos joined scaledOf digitsOf squared sqrtOf rootUnits inUnits scale radicand nearRoot nearer isqrt rootBy digit finite absOf minOf maxOf clampOf ofBits toBits ofFields ofInt odd size round add sub mul div neg lt le eq ne isNan leadingZeros
 table-holds = refl

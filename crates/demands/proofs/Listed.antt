@@ -6,7 +6,6 @@ use mathlib.Core.Path.{_≡_, refl, sym, ap, _∙_, subst}
 use mathlib.Core.Bool.{Bool, true, false}
 use mathlib.Core.Logic.{_↔_, ⊎-elim, inl, inr}
 use mathlib.Core.List.{List, []}
-use lib.ListN.{length}
 use lib.Arith.{digits-lt, digits-div, digits-mod}
 use Rattle.record.specs.declared.Record.{Record}
 use Rattle.pixel.specs.declared.Verdict.{Verdict}
@@ -14,6 +13,7 @@ use Rattle.pixel.specs.declared.Verdict.the-variants.{Listed, Nothing}
 use Rattle.pixel.specs.Verdict.{polarityOf}
 use Rattle.alp.specs.Level.{Maps}
 use Rattle.alp.specs.Due.{judgeOf, listed, pixelDue, rowDue, rowsDue, due}
+use Rattle.alp.proofs.DueLaws.{listed-short}
 use Rattle.demands.specs.List.{StandsAt, Stands, Judged, Admitted, Rising, Of, OnlyOne}
 use Rattle.demands.proofs.Judge.{judged-key, judged-polarity}
 use Rattle.demands.proofs.Places.{at-short, stands-left, stands-right, stands-cases, rising-append, rising-once}
@@ -30,14 +30,9 @@ verdict-all : (v : Verdict) (r : Record) → v ≡ Listed r → StandsAt (listed
 unfolding listed StandsAt
 verdict-all v r h = rw h refl
 
-verdict-short : (v : Verdict) → length (listed v) ≤ 1
-unfolding listed
-verdict-short (Listed s) = omega arith
-verdict-short Nothing = omega arith
-
 verdict-rising : (v : Verdict) → Rising (listed v)
 verdict-rising v i j r t k a b =
-    let short = verdict-short v in
+    let short = listed-short v in
     let below = at-short (listed v) j t b in
     let z : ⊥ = omega arith in
     absurd z

@@ -32,7 +32,7 @@ signs (fin false m e) h =
     le-ltb (m * up e * 1) (0 * 1 * down e) (omega arith) ∙ ap not (sym (lt-ltb (0 * 1 * down e) (m * up e * 1) (omega arith)))
 
 -- a number above zero is the larger of the two
-above-zero : (x : Float) → lt f0 x ≡ true → maxOf x f0 ≡ x
+pub above-zero : (x : Float) → lt f0 x ≡ true → maxOf x f0 ≡ x
 unfolding maxOf isNan lt ofBits
 above-zero nan h = absurd (false≢true h)
 above-zero (inf true) h = absurd (false≢true h)
@@ -53,31 +53,30 @@ reordered true true true false l = refl
 reordered true true true true l = refl
 
 -- or in two steps
+in-steps : {A : Type 0} (put : Bool → A) (i v c p l : Bool) → put (i && v && c && p && true && l) ≡ cond (i && c && v) (put (p && l)) (put false)
+in-steps put false v c p l = refl
+in-steps put true false false p l = refl
+in-steps put true false true p l = refl
+in-steps put true true false p l = refl
+in-steps put true true true false l = refl
+in-steps put true true true true l = refl
+
 low-in-steps : (i v c p l : Bool) (x s : Float) (e : Envelope) → putLow (i && v && c && p && true && l) x s e ≡ cond (i && c && v) (putLow (p && l) x s e) e
 unfolding putLow
-low-in-steps false v c p l x s e = refl
-low-in-steps true false false p l x s e = refl
-low-in-steps true false true p l x s e = refl
-low-in-steps true true false p l x s e = refl
-low-in-steps true true true false l x s e = refl
-low-in-steps true true true true l x s e = refl
+low-in-steps i v c p l x s e = in-steps (λ (t : Bool). putLow t x s e) i v c p l
 
 high-in-steps : (i v c p l : Bool) (x s : Float) (e : Envelope) → putHigh (i && v && c && p && true && l) x s e ≡ cond (i && c && v) (putHigh (p && l) x s e) e
 unfolding putHigh
-high-in-steps false v c p l x s e = refl
-high-in-steps true false false p l x s e = refl
-high-in-steps true false true p l x s e = refl
-high-in-steps true true false p l x s e = refl
-high-in-steps true true true false l x s e = refl
-high-in-steps true true true true l x s e = refl
+high-in-steps i v c p l x s e = in-steps (λ (t : Bool). putHigh t x s e) i v c p l
 
 -- ---- one stationary point
 
-module _ (k g : List Float) (s : Float) (e : Envelope) where
-  turn-off : (m : Bool) → turnOf k s false m e ≡ e
-  unfolding turnOf putLow putHigh
-  turn-off m = refl
+-- one that is not ok changes nothing
+pub turn-off : (k : List Float) (s : Float) (m : Bool) (e : Envelope) → turnOf k s false m e ≡ e
+unfolding turnOf putLow putHigh
+turn-off k s m e = refl
 
+module _ (k g : List Float) (s : Float) (e : Envelope) where
   turn-low : turnOf k s (within (g at 0) (g at 3) s) true e ≡ loweredOf k g s e
   unfolding turnOf loweredOf putHigh
   turn-low = rw (and-false, reordered)

@@ -4,9 +4,10 @@ use mathlib.Core.List.{List}
 use mathlib.Core.Bool.{Bool, true, false}
 use Prim.Native.Nat.{ℕ, zero, suc, _<_}
 use native.Mathlib.Omega.{arith}
-use lib.Ieee.{Float, nan, inf, fin, mul, lt, isNan}
-use Rattle.float.specs.Small.{finite, maxOf}
+use lib.Ieee.{Float, nan, inf, fin, mul}
+use Rattle.float.specs.Small.{finite}
 use Rattle.float.specs.Num.{_⊗_}
+use Rattle.float.proofs.SmallClaims.{max-left-nan, max-right-nan}
 use Rattle.float.proofs.Bools.{all-four, contrary}
 use Rattle.fit.specs.Cubic.{_at_, coeffsOf, hornerOf}
 use Rattle.fit.specs.Prims.{ours}
@@ -42,16 +43,6 @@ times-nan nan = refl
 times-nan (inf s) = refl
 times-nan (fin s m e) = refl
 
-nan-left : (b : Float) → maxOf nan b ≡ b
-unfolding maxOf isNan
-nan-left b = refl
-
-nan-right : (a : Float) → maxOf a nan ≡ a
-unfolding maxOf isNan lt
-nan-right nan = refl
-nan-right (inf s) = refl
-nan-right (fin s m e) = refl
-
 module _ (k : List Float) (low high : Float) (isMax : Bool) where
   -- the extreme with the value at one end of the band alone, and the stationary point inside it
   abbrev pub fromEnd : Float → Float
@@ -60,9 +51,9 @@ module _ (k : List Float) (low high : Float) (isMax : Bool) where
   -- with finite coefficients a NaN at the low end is ignored
   pub low-end-ignored : finiteCubic k ≡ true → hornerOf k low ≡ nan → extremeOf k low high isMax ≡ fromEnd (hornerOf k high)
   unfolding extremeBy
-  low-end-ignored whole h = rw (whole, h, times-nan (signOf isMax), nan-left)
+  low-end-ignored whole h = rw (whole, h, times-nan (signOf isMax), max-left-nan)
 
   -- and a NaN at the high end
   pub high-end-ignored : finiteCubic k ≡ true → hornerOf k high ≡ nan → extremeOf k low high isMax ≡ fromEnd (hornerOf k low)
   unfolding extremeBy
-  high-end-ignored whole h = rw (whole, h, times-nan (signOf isMax), nan-right)
+  high-end-ignored whole h = rw (whole, h, times-nan (signOf isMax), max-right-nan)

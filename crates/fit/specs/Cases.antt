@@ -3,6 +3,7 @@ use Prim.Native.Nat.{ℕ}
 use mathlib.Core.List.{List, [], _∷_}
 use mathlib.Core.Bool.{Bool, true, false}
 use lib.Ieee.{Float, binary32, ofBits, toBits}
+use Rattle.tables.specs.SetT.{values, sigmasT, cubicT}
 use Rattle.fit.specs.Cubic.{hornerOf}
 use Rattle.fit.specs.Band.{extremeOf}
 use Rattle.fit.specs.Envelope.{envelopeOf}
@@ -13,34 +14,21 @@ pub record Case : Type 0 where
   pub given : List ℕ
   pub due : List ℕ
 
--- the floats with these patterns
-unfoldable pub floats : List ℕ → List Float
-floats [] = []
-floats (n ∷ ns) = ofBits binary32 n ∷ floats ns
-
 -- the patterns of an envelope: least, largest, and the sigma of each
 unfoldable pub ofEnvelope : Envelope → List ℕ
 ofEnvelope e = toBits binary32 (e .emin) ∷ toBits binary32 (e .emax) ∷ toBits binary32 (e .smin) ∷ toBits binary32 (e .smax) ∷ []
 
 -- a cubic's value at s
 unfoldable pub valueCase : List ℕ → ℕ → ℕ → Case
-valueCase k s due = record { given = toBits binary32 (hornerOf (floats k) (ofBits binary32 s)) ∷ []; due = due ∷ [] }
+valueCase k s due = record { given = toBits binary32 (hornerOf (values k) (ofBits binary32 s)) ∷ []; due = due ∷ [] }
 
 -- a cubic's extreme over a band
 unfoldable pub extremeCase : List ℕ → ℕ → ℕ → Bool → ℕ → Case
-extremeCase k low high isMax due = record { given = toBits binary32 (extremeOf (floats k) (ofBits binary32 low) (ofBits binary32 high) isMax) ∷ []; due = due ∷ [] }
+extremeCase k low high isMax due = record { given = toBits binary32 (extremeOf (values k) (ofBits binary32 low) (ofBits binary32 high) isMax) ∷ []; due = due ∷ [] }
 
 -- the envelope of four samples, by a table and the sigmas
-unfoldable pub envelopeCase : List ℕ → List ℕ → List ℕ → List ℕ → Case
-envelopeCase t g l due = record { given = ofEnvelope (envelopeOf (floats t) (floats g) (floats l)); due = due }
-
--- set T's sigmas 1, 2, 3, 4
-unfoldable pub sigmasT : List ℕ
-sigmasT = 0x3f800000 ∷ 0x40000000 ∷ 0x40400000 ∷ 0x40800000 ∷ []
-
--- set T's cubic: a (0, 0, 0), b (1, 0, 0), c (0, 1, 0), d (0, 0, 1)
-unfoldable pub cubicT : List ℕ
-cubicT = 0 ∷ 0 ∷ 0 ∷ 0x3f800000 ∷ 0 ∷ 0 ∷ 0 ∷ 0x3f800000 ∷ 0 ∷ 0 ∷ 0 ∷ 0x3f800000 ∷ []
+unfoldable pub envelopeCase : List Float → List Float → List ℕ → List ℕ → Case
+envelopeCase t g l due = record { given = ofEnvelope (envelopeOf t g (values l)); due = due }
 
 -- P4: (1, 2, 3, 4) at 2 is 26. P5: (0, -1, 4, 0) on 1 to 3 has the maximum 4 and the minimum 3. P6: (1, 0, -3, 0) on 0.5 to 2, 2 and -2.
 -- P8: under T the samples (-1, 4, 0, 0) have the envelope -1 to 4, at 0 and 2.

@@ -1,28 +1,22 @@
--- Laws of the input's floats and of its checks.
-use Prim.Native.Nat.{ℕ, zero, suc, _+_, _*_, _≤_, _<_}
+-- Laws of the input's levels and of its checks.
+use Prim.Native.Nat.{ℕ, _+_, _*_, _≤_, _<_}
 use native.Mathlib.Nat.{mul-le-mul, mul-le-mul-right}
-use native.Mathlib.Numerals.{add-one}
 use native.Mathlib.Omega.{arith}
-use mathlib.Core.Path.{_≡_}
-use mathlib.Core.List.{List, [], _∷_, _++_}
-use lib.ListN.{length, take, set}
-use lib.Seq.{take-suc-set}
+use mathlib.Core.Path.{_≡_, ap, _∙_}
+use mathlib.Core.List.{List, _++_}
+use lib.ListN.{length, take, drop, length-append, length-drop}
+use lib.Seq.{length-take-le, take-at}
 use lib.Dec.{eqb}
 use lib.Ieee.{Float}
 use borrow.Author.Tests.{ltb-false, eqb-true, not-false}
+use Rattle.words.specs.Words.{floatsAt}
+use Rattle.words.proofs.WordsLaws.{length-floatsAt}
 use Rattle.tables.specs.declared.Set.{Set}
 use Rattle.tables.specs.declared.Thresholds.{Thresholds}
 use Rattle.tables.specs.declared.Checked.the-variants.{Fine}
 use Rattle.tables.proofs.RefusalLaws.{unless-fine}
-use Rattle.words.specs.Words.{floatFrom}
 use Rattle.alp.specs.Detect.{detectOf}
-use Rattle.lister.specs.Input.{setFrom, thresholdsFrom, rowsFrom, colsFrom, octaveFrom, areaFrom, floatsFrom, levelFrom, listChecks, detectFrom}
-
--- one float more, read into its place
-pub floats-next : (b : List ℕ) (at k : ℕ) (floats : List Float) → k < length floats → take k floats ≡ floatsFrom k b at
-    → take (k + 1) (set floats k (floatFrom b (at + 4 * k))) ≡ floatsFrom (k + 1) b at
-unfolding floatsFrom
-floats-next b at k floats h e = rw (add-one, take-suc-set, e)
+use Rattle.lister.specs.Input.{setFrom, thresholdsFrom, rowsFrom, colsFrom, octaveFrom, areaFrom, levelFrom, listChecks, detectFrom}
 
 -- what no check of the input refuses
 pub record Tile (b : List ℕ) : Type 0 where
@@ -50,11 +44,21 @@ checks-tile b h =
       long = eqb-true _ _ (not-false (eqb (length b) (560 + 16 * areaFrom b)) (whole .0));
     }
 
-pub level-most : {k n : ℕ} → k < 4 → n ≤ 3600 → 4 * k * n ≤ 43200
-level-most {k} {n} h p = mul-le-mul {n₂ = 12} (omega arith) p
+pub level-most : {k n : ℕ} → k < 4 → n ≤ 3600 → k * n ≤ 10800
+level-most {k} {n} h p = mul-le-mul {n₂ = 3} (omega arith) p
 
-pub level-within : (k n : ℕ) → k < 4 → 560 + 4 * k * n + 4 * n ≤ 560 + 16 * n
-level-within k n h = let q : 4 * k * n ≤ 12 * n = mul-le-mul-right {m = 4 * k} {n = 12} n (omega arith) in omega arith
+pub level-within : (k n : ℕ) → k < 4 → 4 * (140 + k * n + n) ≤ 560 + 16 * n
+level-within k n h = let q : k * n ≤ 3 * n = mul-le-mul-right {m = k} {n = 3} n (omega arith) in omega arith
+
+-- a level read into the start of an array
+pub level-read : (b : List ℕ) (floats level : List Float) (k n : ℕ) → length floats ≡ 3600 → n ≤ 3600 → n ≡ areaFrom b
+    → level ≡ floatsAt (length (take n floats)) b (140 + k * n)
+    → (take (areaFrom b) (level ++ drop n floats) ≡ levelFrom b k) × (length (level ++ drop n floats) ≡ 3600)
+level-read b floats level k n long most area e =
+    let room : length (take n floats) ≡ n = length-take-le n floats (omega arith) in
+    let is : level ≡ floatsAt n b (140 + k * n) = e ∙ ap (λ (m : ℕ). floatsAt m b (140 + k * n)) room in
+    let size : length level ≡ n = ap length is ∙ length-floatsAt n b (140 + k * n) in
+    (rw (← area) (take-at level _ n size ∙ is), omega (arith, length-append level (drop n floats), length-drop n floats))
 
 -- detection of the parts that were read is that of the input
 module _ (b out : List ℕ) {s : Set} {th : Thresholds} {rows cols octave n : ℕ} (l0 l1 l2 l3 : List Float) where

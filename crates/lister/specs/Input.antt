@@ -1,7 +1,7 @@
 -- The input's layout, and its checks. Definitions only.
-use Prim.Native.Nat.{ℕ, zero, suc, _+_, _*_}
+use Prim.Native.Nat.{ℕ, _+_, _*_}
 use mathlib.Core.Bool.{not}
-use mathlib.Core.List.{List, [], _∷_, _++_}
+use mathlib.Core.List.{List}
 use lib.ListN.{length, take}
 use lib.Dec.{ltb, eqb}
 use lib.Ieee.{Float}
@@ -11,7 +11,7 @@ use Rattle.tables.specs.declared.Refusal.the-variants.{Size, Level}
 use Rattle.tables.specs.declared.Checked.{Checked}
 use Rattle.tables.specs.declared.Checked.the-variants.{Fine}
 use Rattle.tables.specs.Refusal.{unless, readSetOf}
-use Rattle.words.specs.Words.{wordFrom, floatFrom}
+use Rattle.words.specs.Words.{wordFrom, floatFrom, floatsAt}
 use Rattle.alp.specs.Level.{Maps, mapsOf}
 use Rattle.alp.specs.Detect.{Outcome, detectOf}
 
@@ -39,14 +39,9 @@ octaveFrom b = wordFrom b 556
 abbrev pub areaFrom : List ℕ → ℕ
 areaFrom b = rowsFrom b * colsFrom b
 
--- n floats that begin at the byte at
-unfoldable pub floatsFrom : ℕ → List ℕ → ℕ → List Float
-floatsFrom zero b at = []
-floatsFrom (suc n) b at = floatsFrom n b at ++ (floatFrom b (at + 4 * n) ∷ [])
-
--- level k of the four, which follow the header of 560 bytes
+-- level k of the four, which follow the header of 560 bytes, or 140 words
 abbrev pub levelFrom : List ℕ → ℕ → List Float
-levelFrom b k = floatsFrom (areaFrom b) b (560 + 4 * k * areaFrom b)
+levelFrom b k = floatsAt (areaFrom b) b (140 + k * areaFrom b)
 
 -- 2 at once for a header cut short, 1 for a side above 60, then 2 for any wrong input length
 unfoldable pub listChecks : List ℕ → Checked

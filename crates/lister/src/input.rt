@@ -5,7 +5,7 @@ ghost use lib.ListN.{length, take};
 ghost use Rattle.tables.specs.declared.Checked.the-variants.{Fine};
 ghost use Rattle.alp.specs.Detect.{outcome};
 ghost use Rattle.words.specs.Words.{wordFrom};
-ghost use Rattle.lister.specs.Input.{setFrom, thresholdsFrom, areaFrom, floatsFrom, levelFrom, listChecks, detectFrom};
+ghost use Rattle.lister.specs.Input.{setFrom, thresholdsFrom, areaFrom, levelFrom, listChecks, detectFrom};
 use alp::Answer;
 use tables::Checked;
 use tables::Refusal;
@@ -73,21 +73,6 @@ fn thresholds_from(input: &[u8]) -> Thresholds
     }
 }
 
-// The n floats that begin at the byte at, at an array's start.
-fn floats_from(input: &[u8], at: usize, n: usize) -> [f32; 3600]
-    requires { ⌜ at + 4 * n ≤ length (now input) ⌝ }
-    requires { ⌜ n ≤ 3600 ⌝ }
-    ensures { λ r. ⌜ (take n r ≡ floatsFrom n (now (input .entry)) at) × (length r ≡ 3600) ⌝ }
-{
-    let mut floats = [0.0f32; 3600];
-    let mut k: usize = 0;
-    while k < n {
-        floats[k] = words::float_from(input, at + 4 * k);
-        k += 1;
-    }
-    floats
-}
-
 // The pixels of a level.
 fn area_from(input: &[u8]) -> usize
     requires { ⌜ listChecks (now input) ≡ Fine ⌝ }
@@ -105,7 +90,9 @@ fn level_from(input: &[u8], k: usize) -> [f32; 3600]
     ensures { λ r. ⌜ (take (areaFrom (now (input .entry))) r ≡ levelFrom (now (input .entry)) k) × (length r ≡ 3600) ⌝ }
 {
     let n = area_from(input);
-    floats_from(input, 560 + 4 * k * n, n)
+    let mut floats = [0.0f32; 3600];
+    words::read_floats(input, 140 + k * n, &mut floats[..n]);
+    floats
 }
 
 // Detects what the input holds, with its list in the buffer out.

@@ -1,5 +1,5 @@
 -- The set: its record's layout, and when a set is good. Definitions only.
-use Prim.Native.Nat.{ℕ, zero, suc, _*_}
+use Prim.Native.Nat.{ℕ}
 use mathlib.Core.List.{List, [], _∷_}
 use mathlib.Core.Bool.{Bool, true, not, _&&_}
 use lib.Dec.{eqb, ltb}
@@ -7,7 +7,7 @@ use lib.ListN.{getD, length, take, drop, replicate}
 use lib.Ieee.{Float, nan, lt}
 use Rattle.float.specs.Small.{finite}
 use Rattle.float.specs.Num.{f0}
-use Rattle.words.specs.Words.{floatFrom}
+use Rattle.words.specs.Words.{floatsAt}
 use Rattle.tables.specs.declared.Set.{Set}
 
 -- every element of the list passes the test
@@ -47,11 +47,6 @@ blank = record {
 }
 
 -- ---- the record of 528 bytes
-
--- n floats from the i-th word on
-unfoldable pub floatsAt : ℕ → List ℕ → ℕ → List Float
-floatsAt zero b i = []
-floatsAt (suc n) b i = floatFrom b (4 * i) ∷ floatsAt n b (suc i)
 
 -- 4 sigmas; 12 scale cubic and 12 geometry cubic entries; 45 spatial entries for scale index 1, then 45 for 2; 11 geometry numbers; 9 sample-order bytes
 unfoldable pub setOf : List ℕ → Set

@@ -1,25 +1,12 @@
-// The parts of a set's record: floats, order bytes and spare bytes, each by its place.
+// The parts of a set's record, each by its place.
 ghost use mathlib.Core.Path.{_≡_};
-ghost use Prim.Native.Nat.{_+_, _*_, _≤_};
 ghost use lib.ListN.{length, take, drop};
-ghost use Rattle.tables.specs.Set.{floatsAt, setOf, spareZero};
+ghost use Rattle.tables.specs.Set.{setOf, spareZero};
 ghost use Rattle.tables.specs.Refusal.{refusedSet};
 use crate::Checked;
 use crate::Refusal;
 use crate::Set;
 use crate::SetRead;
-
-// As many floats as `out` holds, from the i-th word on.
-fn read_floats(bytes: &[u8], i: usize, out: &mut [f32])
-    requires { ⌜ 4 * (i + length (now out)) ≤ length (now bytes) ⌝ }
-    ensures { λ _. ⌜ now (out .exit) ≡ floatsAt (length (now (out .entry))) (now (bytes .entry)) i ⌝ }
-{
-    let mut k: usize = 0;
-    while k < out.len() {
-        out[k] = words::float_from(bytes, 4 * (i + k));
-        k += 1;
-    }
-}
 
 // The nine sample-order bytes.
 fn order_of(bytes: &[u8]) -> [u8; 9]
@@ -41,15 +28,15 @@ pub fn set_of(bytes: &[u8]) -> Set
     ensures { λ r. ⌜ r ≡ setOf (now (bytes .entry)) ⌝ }
 {
     let mut sigmas = [0.0f32; 4];
-    read_floats(bytes, 0, &mut sigmas);
+    words::read_floats(bytes, 0, &mut sigmas);
     let mut scale = [0.0f32; 12];
-    read_floats(bytes, 4, &mut scale);
+    words::read_floats(bytes, 4, &mut scale);
     let mut geometry = [0.0f32; 12];
-    read_floats(bytes, 16, &mut geometry);
+    words::read_floats(bytes, 16, &mut geometry);
     let mut spatial = [0.0f32; 90];
-    read_floats(bytes, 28, &mut spatial);
+    words::read_floats(bytes, 28, &mut spatial);
     let mut numbers = [0.0f32; 11];
-    read_floats(bytes, 118, &mut numbers);
+    words::read_floats(bytes, 118, &mut numbers);
     let order = order_of(bytes);
     Set {
         sigmas,

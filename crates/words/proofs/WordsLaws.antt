@@ -1,15 +1,15 @@
 -- Laws of a word's and a float's bytes: how many they are, and that what is written is read back. Assumes nothing.
-use Prim.Native.Nat.{ℕ, _+_, _*_, _/_, _%_, _^_, _<_}
+use Prim.Native.Nat.{ℕ, zero, suc, _+_, _*_, _/_, _%_, _^_, _<_}
 use native.Mathlib.Nat.{add-assoc, div-div-eq-div-mul, mod-eq-of-lt}
 use native.Mathlib.Omega.{arith}
 use mathlib.Core.Path.{_≡_, refl, ap, _∙_}
-use mathlib.Core.List.{List, _++_}
+use mathlib.Core.List.{List, [], _∷_, _++_}
 use lib.ListN.{length}
 use lib.Seq.{getD-append-add}
 use lib.Dec.{T}
 use lib.Ieee.{Float, binary32, fits, ofBits, toBits}
 use lib.Ieee.Bits.{ofBits-toBits, toBits-lt}
-use Rattle.words.specs.Words.{wordBytes, floatBytes, wordFrom, floatFrom}
+use Rattle.words.specs.Words.{wordBytes, floatBytes, wordFrom, floatFrom, floatsAt}
 
 -- ---- lengths
 
@@ -21,6 +21,11 @@ pub length-floatBytes : (x : Float) → length (floatBytes x) ≡ 4
 unfolding floatBytes wordBytes
 length-floatBytes x = refl
 
+pub length-floatsAt : (n : ℕ) (b : List ℕ) (i : ℕ) → length (floatsAt n b i) ≡ n
+unfolding floatsAt
+length-floatsAt zero b i = refl
+length-floatsAt (suc n) b i = ap suc (length-floatsAt n b (suc i))
+
 -- ---- reading past a front
 
 pub wordFrom-append : (front b : List ℕ) (k : ℕ) → wordFrom (front ++ b) (length front + k) ≡ wordFrom b k
@@ -30,6 +35,16 @@ wordFrom-append front b k = simp (add-assoc, getD-append-add)
 pub floatFrom-append : (front b : List ℕ) (k : ℕ) → floatFrom (front ++ b) (length front + k) ≡ floatFrom b k
 unfolding floatFrom
 floatFrom-append front b k = ap (ofBits binary32) (wordFrom-append front b k)
+
+-- ---- one float more
+
+pub floats-next : (k : ℕ) (b : List ℕ) (i : ℕ) → floatsAt k b i ++ (floatFrom b (4 * (i + k)) ∷ []) ≡ floatsAt (k + 1) b i
+unfolding floatsAt
+floats-next zero b i = let e : i + 0 ≡ i = omega arith in rw e
+floats-next (suc k) b i =
+    let e : i + suc k ≡ suc i + k = omega arith in
+    let s : suc k + 1 ≡ suc (k + 1) = omega arith in
+    rw (e, s, ← floats-next k b (suc i))
 
 -- ---- written and read
 

@@ -1,5 +1,5 @@
 -- Words and floats as little-endian bytes, written and read. Definitions only.
-use Prim.Native.Nat.{ℕ, _+_, _*_, _/_, _%_}
+use Prim.Native.Nat.{ℕ, zero, suc, _+_, _*_, _/_, _%_}
 use mathlib.Core.List.{List, [], _∷_}
 use lib.ListN.{getD}
 use lib.Ieee.{Float, binary32, ofBits, toBits}
@@ -23,3 +23,8 @@ wordFrom b at = getD b at 0 + 256 * getD b (at + 1) 0 + 65536 * getD b (at + 2) 
 -- the float that begins there; a NaN pattern gives NaN
 unfoldable pub floatFrom : List ℕ → ℕ → Float
 floatFrom b at = ofBits binary32 (wordFrom b at)
+
+-- n floats from the i-th word on
+unfoldable pub floatsAt : ℕ → List ℕ → ℕ → List Float
+floatsAt zero b i = []
+floatsAt (suc n) b i = floatFrom b (4 * i) ∷ floatsAt n b (suc i)

@@ -1,11 +1,11 @@
 // Words and floats as little-endian bytes, written and read.
 ghost use mathlib.Core.Path.{_≡_};
 ghost use mathlib.Core.List.{[], _∷_};
-ghost use Prim.Native.Nat.{_+_, _<_, _≤_};
+ghost use Prim.Native.Nat.{_+_, _*_, _<_, _≤_};
 ghost use lib.ListN.{length};
 ghost use lib.Seq.{sets};
 ghost use lib.Ieee.{binary32, toBits, ofBits};
-ghost use Rattle.words.specs.Words.{wordBytes, floatBytes, wordFrom, floatFrom};
+ghost use Rattle.words.specs.Words.{wordBytes, floatBytes, wordFrom, floatFrom, floatsAt};
 
 // The bit pattern of x, any NaN as 0x7fc00000.
 pub fn bits(x: f32) -> u32
@@ -84,4 +84,16 @@ pub fn float_from(b: &[u8], at: usize) -> f32
     ensures { λ r. ⌜ r ≡ floatFrom (now (b .entry)) at ⌝ }
 {
     float_of(word_from(b, at))
+}
+
+// As many floats as `out` holds, from the i-th word on.
+pub fn read_floats(bytes: &[u8], i: usize, out: &mut [f32])
+    requires { ⌜ 4 * (i + length (now out)) ≤ length (now bytes) ⌝ }
+    ensures { λ _. ⌜ now (out .exit) ≡ floatsAt (length (now (out .entry))) (now (bytes .entry)) i ⌝ }
+{
+    let mut k: usize = 0;
+    while k < out.len() {
+        out[k] = float_from(bytes, 4 * (i + k));
+        k += 1;
+    }
 }

@@ -1,12 +1,9 @@
 -- What a pixel's numbers keep where zeros are chosen otherwise: envelope, gate of the levels, band and band extreme.
 use mathlib.Core.Path.{_≡_, refl, sym}
-use Prim.Native.Nat.{ℕ, _*_}
-use native.Mathlib.Nat.{zero-mul}
-use native.Mathlib.Omega.{arith}
+use Prim.Native.Nat.{ℕ}
 use mathlib.Core.List.{List}
-use mathlib.Core.Bool.{Bool, true, false, false≢true}
-use borrow.Author.Tests.{le-ltb}
-use lib.Ieee.{Float, nan, inf, fin, isNan, up, down, lt, ofBits}
+use mathlib.Core.Bool.{Bool, true, false}
+use lib.Ieee.{Float, lt}
 use Rattle.float.specs.Small.{absOf, minOf, maxOf}
 use Rattle.float.specs.Sqrt.{sqrtOf}
 use Rattle.float.specs.Num.{f0, f1e-6}
@@ -19,6 +16,7 @@ use Rattle.fit.specs.Owns.{ownsBy}
 use Rattle.fit.specs.declared.Envelope.{Envelope}
 use Rattle.fit.specs.declared.Stationary.{Stationary}
 use Rattle.fit.specs.declared.Stationary.the-variants.{At, Nowhere}
+use Rattle.fit.proofs.Agree.{above-zero, turn-off}
 use Rattle.zeros.specs.Steps.{EnvelopeNear, BandNear}
 use Rattle.zeros.proofs.NearLaws.{near-sym, near-trans, near, mul~, lt~, cond~, max~, min~, and~, above-equal}
 
@@ -42,10 +40,6 @@ turn~ : (k : List Float) (s : Float) (ok isMin : Bool) {a b : Envelope} → Enve
 unfolding turnOf
 turn~ k s ok isMin h = put-high _ s (rw (lt~ (h .emax) (same {x = hornerOf k s}))) (put-low _ s (rw (lt~ (same {x = hornerOf k s}) (h .emin))) h)
 
-turn-off : (k : List Float) (s : Float) (m : Bool) (e : Envelope) → turnOf k s false m e ≡ e
-unfolding turnOf putLow putHigh
-turn-off k s m e = refl
-
 turns~ : (k g : List Float) (root : Float) {a b : Envelope} → EnvelopeNear a b → EnvelopeNear (turnsOf k g root a) (turnsOf k g root b)
 unfolding turnsOf
 turns~ k g root h = turn~ k _ _ _ (turn~ k _ _ _ h)
@@ -58,14 +52,6 @@ rootless k g r r' e h = go (lt f1e-6 (absOf (k at 0))) refl (lt f1e-6 (absOf (k 
   go true p u q = rw (h, p) (simp turn-off)
   go false p true q = rw (h, p, q) (simp turn-off)
   go false p false q = rw (h, p, q) (simp turn-off)
-
-max-above : (x : Float) → lt f0 x ≡ true → maxOf x f0 ≡ x
-unfolding maxOf isNan lt ofBits
-max-above nan h = absurd (false≢true h)
-max-above (inf true) h = absurd (false≢true h)
-max-above (inf false) h = refl
-max-above (fin true m e) h = absurd (false≢true h)
-max-above (fin false m e) h = rw (le-ltb (m * up e * 1) (0 * down e) (omega (arith, zero-mul (down e))))
 
 horner~ : (k : List Float) {s s' : Float} → Near s s' → Near (hornerOf k s) (hornerOf k s')
 unfolding hornerOf
@@ -88,7 +74,7 @@ module _ (p : Prims) (A : Allowed p) where
   unfolding shapeBy
   shape~ k g l0 l3 = go (lt f0 (discriminantOf k)) refl where
     go : (t : Bool) → lt f0 (discriminantOf k) ≡ t → EnvelopeNear (shapeBy p k g l0 l3) (shapeBy ours k g l0 l3)
-    go true h = rw (sym (above-equal (near-sym (A .high 1 (discriminantOf k) f0)) (rw (max-above (discriminantOf k) h) h))) (turns~ k g _ (ends~ l0 l3))
+    go true h = rw (sym (above-equal (near-sym (A .high 1 (discriminantOf k) f0)) (rw (above-zero (discriminantOf k) h) h))) (turns~ k g _ (ends~ l0 l3))
     go false h = rw (rootless k g (sqrtOf (p .maxP 1 (discriminantOf k) f0)) (sqrtOf (maxOf (discriminantOf k) f0)) (endsBy p l0 l3) h) (turns~ k g _ (ends~ l0 l3))
 
   pub envelope~ : (t g l : List Float) → EnvelopeNear (envelopeBy p t g l) (envelopeOf t g l)

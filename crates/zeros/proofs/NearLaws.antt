@@ -170,11 +170,15 @@ lt~ (zeros {s = s} {t = t}) (zeros {s = u} {t = v}) = lt-left s t _ ∙ lt-right
 
 -- ---- what else is done with floats
 
-pub cond~ : {b b' : Bool} {x x' y y' : Float} → b ≡ b' → Near x x' → Near y y' → Near (cond b x y) (cond b' x' y')
-cond~ {b = b} e p q = rw (← e) (pick b p q) where
-  pick : (b : Bool) {x x' y y' : Float} → Near x x' → Near y y' → Near (cond b x y) (cond b x' y')
+-- what equal tests choose is related where both choices are
+pub chosen~ : {A : Type 0} (R : A → A → Type 0) {t t' : Bool} {a a' b b' : A} → t ≡ t' → R a a' → R b b' → R (cond t a b) (cond t' a' b')
+chosen~ {A = A} R {t = t} e p q = rw (← e) (pick t p q) where
+  pick : (t : Bool) {a a' b b' : A} → R a a' → R b b' → R (cond t a b) (cond t a' b')
   pick true p q = p
   pick false p q = q
+
+pub cond~ : {b b' : Bool} {x x' y y' : Float} → b ≡ b' → Near x x' → Near y y' → Near (cond b x y) (cond b' x' y')
+cond~ e p q = chosen~ Near e p q
 
 nan~ : {x x' : Float} → Near x x' → isNan x ≡ isNan x'
 unfolding isNan

@@ -21,11 +21,10 @@ use Rattle.pixel.specs.Gate.{sigmaOf, peakOf, strongOf, gateBy}
 use Rattle.pixel.specs.Ring.{allOf, beatsBy, ringBy}
 use Rattle.pixel.specs.Verdict.{cubicsOf, wholeOf, anchorOf, recordOf, admitOf, verdictBy, verdictOf}
 use Rattle.pixel.specs.declared.Frame.{Frame}
-use Rattle.pixel.specs.declared.Verdict.{Verdict}
 use Rattle.pixel.specs.declared.Verdict.the-variants.{Nothing}
 use Rattle.zeros.specs.Steps.{BandNear, SpotNear, RefinedNear, rejected, accepted}
 use Rattle.zeros.specs.Alike.{RecordNear, VerdictNear, nothing, listed}
-use Rattle.zeros.proofs.NearLaws.{lt~, fin~, and~, whole-add~}
+use Rattle.zeros.proofs.NearLaws.{lt~, fin~, chosen~, and~, whole-add~}
 use Rattle.zeros.proofs.FitNear.{shape~, owns~, band~, extreme~}
 use Rattle.zeros.proofs.RefineNear.{refine~}
 
@@ -79,16 +78,10 @@ pub readable~ : (rows cols : ℕ) {a b : Record} → RecordNear a b → readable
 unfolding readable finiteRecord
 readable~ rows cols R = rw (R .x, R .y, R .sigma, fin~ (R .peak), R .s0, R .s1, R .s2, R .s3, R .key, R .octave, R .index, R .polarity, R .spare)
 
-verdict-cond : {t t' : Bool} {a a' b b' : Verdict} → t ≡ t' → VerdictNear a a' → VerdictNear b b' → VerdictNear (cond t a b) (cond t' a' b')
-verdict-cond {t = t} e p q = rw (← e) (pick t p q) where
-  pick : (t : Bool) {a a' b b' : Verdict} → VerdictNear a a' → VerdictNear b b' → VerdictNear (cond t a b) (cond t a' b')
-  pick true p q = p
-  pick false p q = q
-
 admit~ : (f : Frame) (l : List Float) (key : ℕ) {a b : Refined} → RefinedNear a b → VerdictNear (admitOf f l key a) (admitOf f l key b)
 unfolding admitOf
 admit~ f l key rejected = nothing
-admit~ f l key (accepted S) = let R = record~ l key S in verdict-cond (readable~ (f .rows) (f .cols) R) (listed R) nothing
+admit~ f l key (accepted S) = let R = record~ l key S in chosen~ VerdictNear (readable~ (f .rows) (f .cols) R) (listed R) nothing
 
 anchor~ : (row col : ℕ) (sigma : Float) {v v' : Float} (octave : ℕ) (isMax : Bool) → Near v v' → SpotNear (anchorOf row col sigma v octave isMax) (anchorOf row col sigma v' octave isMax)
 unfolding anchorOf
@@ -119,7 +112,7 @@ module _ (P : ℕ → Prims) (A : (i : ℕ) → Allowed (P i)) (s : Set) (th : T
       let k = cubicsOf (s .scale) nine in
       let l = getD nine 4 [] in
       rw (← e)
-      (verdict-cond
+      (chosen~ VerdictNear
       (and~ (and~ {a = wholeOf nine} refl (gate~ (P 4) (A 4) th l (getD k 4 []) sigma isMax h)) (ring~ P A k isMax h (band~ (P 4) (A 4) (s .sigmas) sigma)))
       (admit~ f l (row * f .cols + col) (refined~ sigma isMax h))
       nothing)

@@ -12,10 +12,9 @@ use Rattle.fit.specs.Prims.{Prims, Allowed, ours}
 use Rattle.fit.specs.Cubic.{_at_}
 use Rattle.refine.specs.Refine.{valuesOf, edgeOf, indexOf, sumFrom, rowSumBy, spatialBy, denominatorOf, steepOf, deltaYOf, deltaXOf, nearby, placedOf, movedOf, refineBy}
 use Rattle.refine.specs.declared.Spot.{Spot}
-use Rattle.refine.specs.declared.Refined.{Refined}
 use Rattle.refine.specs.declared.Refined.the-variants.{Rejected}
 use Rattle.zeros.specs.Steps.{Steady, SpotNear, RefinedNear, rejected, accepted}
-use Rattle.zeros.proofs.NearLaws.{near, add~, div~, lt~, fin~, abs~, and~, not~, choose~, not-tiny-equal, not-small-equal}
+use Rattle.zeros.proofs.NearLaws.{near, add~, div~, lt~, fin~, chosen~, abs~, and~, not~, choose~, not-tiny-equal, not-small-equal}
 
 sum~ : (n i : ℕ) (f : ℕ → Float) {a a' : Float} → Near a a' → Near (sumFrom n i a f) (sumFrom n i a' f)
 unfolding sumFrom
@@ -40,17 +39,11 @@ nearby~ : {d d' : Float} → Near d d' → nearby d ≡ nearby d'
 unfolding nearby
 nearby~ h = and~ (fin~ h) (not~ (lt~ same (abs~ h)))
 
-refined~ : {t t' : Bool} {a a' b b' : Refined} → t ≡ t' → RefinedNear a a' → RefinedNear b b' → RefinedNear (cond t a b) (cond t' a' b')
-refined~ {t = t} e p q = rw (← e) (pick t p q) where
-  pick : (t : Bool) {a a' b b' : Refined} → RefinedNear a a' → RefinedNear b b' → RefinedNear (cond t a b) (cond t a' b')
-  pick true p q = p
-  pick false p q = q
-
 module _ {a b : Spot} (S : SpotNear a b) (x-steady : Steady (a .x)) (y-steady : Steady (a .y)) (index : ℕ) where
   placed~ : {dx dx' dy dy' : Float} → Near dx dx' → Near dy dy' → RefinedNear (placedOf a index dx dy) (placedOf b index dx' dy')
   unfolding placedOf
   placed~ {dx = dx} {dx' = dx'} {dy = dy} {dy' = dy'} h k =
-      refined~ (and~ (nearby~ h) (nearby~ k))
+      chosen~ RefinedNear (and~ (nearby~ h) (nearby~ k))
       (accepted (record {
         x = x-steady dx dx' h ∙ ap (λ (z : Float). z ⊕ dx') (S .x);
         y = y-steady dy dy' k ∙ ap (λ (z : Float). z ⊕ dy') (S .y);
@@ -87,12 +80,12 @@ module _ {a b : Spot} (S : SpotNear a b) (x-steady : Steady (a .x)) (y-steady : 
     moved~ = go (lt (denominatorOf w) f1e-10) refl (lt (absOf (w at 0)) f1e-10) refl where
       go : (t : Bool) → lt (denominatorOf w) f1e-10 ≡ t → (u : Bool) → lt (absOf (w at 0)) f1e-10 ≡ u → RefinedNear (movedOf a index w) (movedOf b index w')
       go true p u q = rw (p, sym (lt~ denominator~ (same {x = f1e-10})) ∙ p) rejected
-      go false p true q = refined~ (lt~ denominator~ same) rejected (rw (q, sym (lt~ (abs~ (W 0)) (same {x = f1e-10})) ∙ q) rejected)
+      go false p true q = chosen~ RefinedNear (lt~ denominator~ same) rejected (rw (q, sym (lt~ (abs~ (W 0)) (same {x = f1e-10})) ∙ q) rejected)
       go false p false q =
           let D : denominatorOf w ≡ denominatorOf w' = not-tiny-equal denominator~ p in
           let Z : w at 0 ≡ w' at 0 = not-small-equal (W 0) q in
-          refined~ (lt~ denominator~ same) rejected (refined~ (lt~ (abs~ (W 0)) same) rejected
-          (refined~ (steep~ (S .max)) (placed~ (delta-x~ Z (delta-y~ D)) (delta-y~ D)) rejected))
+          chosen~ RefinedNear (lt~ denominator~ same) rejected (chosen~ RefinedNear (lt~ (abs~ (W 0)) same) rejected
+          (chosen~ RefinedNear (steep~ (S .max)) (placed~ (delta-x~ Z (delta-y~ D)) (delta-y~ D)) rejected))
 
 module _ (p : Prims) (A : Allowed p) (s : Set) (most : Float) (k : List (List Float)) {a b : Spot} (S : SpotNear a b) (x-steady : Steady (a .x)) (y-steady : Steady (a .y)) where
   from : {sigma sigma' : Float} {m m' : Bool} → sigma ≡ sigma' → m ≡ m' →
@@ -103,7 +96,7 @@ module _ (p : Prims) (A : Allowed p) (s : Set) (most : Float) (k : List (List Fl
       let v = valuesOf k sigma in
       let index = indexOf (s .sigmas) sigma in
       rw (← e, ← d)
-      (refined~ {t = edgeOf v most m} refl (moved~ S x-steady y-steady index (spatialBy p s index v) (spatialBy ours s index v) (spatial~ p A s index v)) rejected)
+      (chosen~ RefinedNear {t = edgeOf v most m} refl (moved~ S x-steady y-steady index (spatialBy p s index v) (spatialBy ours s index v) (spatial~ p A s index v)) rejected)
 
   -- any allowed choice of the sums' zeros accepts the same spot, or rejects as well
   pub refine~ : RefinedNear (refineBy p s most k a) (refineBy ours s most k b)

@@ -22,7 +22,7 @@ use tally::Tally;
 const USE: &str = "use: compare own [SEED [TIMES]]
      compare tally [SEED [TIMES]]
      compare run SEED TIMES PROGRAM [ARGUMENTS]
-     compare archive SEED TIMES               (built with the feature `archive`)
+     compare archive SEED TIMES               (built with the feature `archive`; 2,000,000 corrections a time beside the families)
      compare probe SEED CASES_A_FUNCTION      (built with the feature `probe`)
      compare one FAMILY SEED NUMBER [PLACE VALUE_BITS] [-- PROGRAM [ARGUMENTS]]
      compare widest SEED                      (the archive too where it is built in)

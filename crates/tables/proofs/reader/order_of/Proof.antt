@@ -6,7 +6,7 @@ use native.Mathlib.Omega.{arith}
 use native.Mathlib.Numerals.{add-one}
 use lib.ListN.{length, take, drop, getD, length-set, length-drop}
 use lib.Seq.{take-suc, take-all, getD-drop}
-use Rattle.tables.proofs.Loops.{filled-next}
+use Rattle.words.proofs.Stores.{filled-next}
 use Rattle.tables.proofs.reader.order_of.Statement.{statement}
 use Rattle.tables.proofs.reader.order_of.Tie as tie
 

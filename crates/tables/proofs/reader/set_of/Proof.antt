@@ -5,7 +5,8 @@ use Prim.Native.Nat.{ℕ}
 use lib.ListN.{take, drop}
 use lib.Ieee.{Float}
 use Rattle.tables.specs.declared.Set.{Set}
-use Rattle.tables.specs.Set.{floatsAt, setOf}
+use Rattle.words.specs.Words.{floatsAt}
+use Rattle.tables.specs.Set.{setOf}
 use borrow.Author.Needs.{needs}
 use Rattle.tables.proofs.reader.set_of.Statement.{statement}
 use Rattle.tables.proofs.reader.set_of.Tie as tie

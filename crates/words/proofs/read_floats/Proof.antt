@@ -1,14 +1,15 @@
--- `read_floats` meets its contract.
+-- `words::read_floats` meets its contract.
 use mathlib.Core.Path.{_≡_, refl, sym, _∙_}
 use Prim.Native.Nat.{_≤_, _<_, _-_}
 use native.Mathlib.Omega.{arith}
 use borrow.Author.Needs.{needs}
 use lib.ListN.{length, take, length-set}
 use lib.Seq.{take-all}
-use Rattle.tables.specs.Set.{floatsAt}
-use Rattle.tables.proofs.Loops.{filled-next, floats-next}
-use Rattle.tables.proofs.reader.read_floats.Statement.{statement}
-use Rattle.tables.proofs.reader.read_floats.Tie as tie
+use Rattle.words.specs.Words.{floatsAt}
+use Rattle.words.proofs.Stores.{filled-next}
+use Rattle.words.proofs.WordsLaws.{floats-next}
+use Rattle.words.proofs.read_floats.Statement.{statement}
+use Rattle.words.proofs.read_floats.Tie as tie
 
 abbrev Inv-loop : tie.InvT-loop
 Inv-loop bytes i out₀ k₀ out k = (k ≤ length out) × (length out ≡ length out₀) × (take k out ≡ floatsAt k bytes i)
