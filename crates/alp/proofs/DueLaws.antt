@@ -2,19 +2,20 @@
 use Prim.Native.Nat.{ℕ, zero, suc, _+_, _-_, _*_, _≤_}
 use native.Mathlib.Nat.{add-zero}
 use native.Mathlib.Omega.{arith}
-use mathlib.Core.Bool.{true, false}
-use mathlib.Core.Path.{_≡_, sym, ap, _∙_}
+use mathlib.Core.Bool.{Bool, true, false}
+use mathlib.Core.Path.{_≡_, refl, sym, ap, _∙_}
 use mathlib.Core.List.{List, [], _++_}
-use lib.ListN.{length, getD, length-append}
+use lib.ListN.{length, length-append}
 use Rattle.record.specs.declared.Record.{Record}
 use Rattle.record.proofs.LayoutLaws.{lay-none, lay-append, length-lay}
 use Rattle.pixel.specs.declared.Verdict.{Verdict}
 use Rattle.pixel.specs.declared.Verdict.the-variants.{Listed, Nothing}
-use Rattle.pixel.specs.Verdict.{mayList}
-use Rattle.pixel.proofs.VerdictLaws.{may-not-list}
-use Rattle.alp.specs.Level.{Maps, samplesAt, nineAt}
+use Rattle.pixel.specs.Stands.{settledOf}
+use Rattle.pixel.proofs.StandsLaws.{settled-verdict, hidden}
+use Rattle.alp.specs.Level.{Maps, nineAt}
+use Rattle.alp.specs.Marks.{standsAt, markOf}
 use Rattle.alp.specs.Due.{judgeOf, listed, pixelDue, rowDue, rowsDue, Laid}
-use Rattle.alp.proofs.LevelLaws.{nine-centre}
+use Rattle.alp.proofs.MarksLaws.{mark-zero}
 
 pub laid-none : {out : List ℕ} {n : ℕ} → Laid out out n n []
 laid-none = record { count = sym (add-zero _); bytes = sym (lay-none _ _) }
@@ -31,12 +32,21 @@ laid-length {a} {b} {n} {m} {rs} p = ap length (p .bytes) ∙ length-lay rs a n
 
 -- ---- pixels that list nothing
 
--- a pixel whose own samples rule it out lists nothing
-pub ruled-out : (m : Maps) (row col : ℕ) → mayList (m .set) (m .thresholds) (samplesAt m row col) ≡ false → pixelDue m row col ≡ []
-unfolding pixelDue judgeOf listed
-ruled-out m row col h =
-    let centre : mayList (m .set) (m .thresholds) (getD (nineAt m row col) 4 []) ≡ false = rw (nine-centre (samplesAt m) row col) h in
-    rw (may-not-list _ _ (m .frame) (nineAt m row col) row col false centre, may-not-list _ _ (m .frame) (nineAt m row col) row col true centre)
+-- told rightly whether it stands out, a pixel lists its verdict
+pub settled-judged : (m : Maps) (row col : ℕ) (isMax stands : Bool) → stands ≡ standsAt m row col isMax
+    → settledOf (m .set) (m .thresholds) (m .frame) (nineAt m row col) row col isMax stands ≡ judgeOf m row col isMax
+unfolding judgeOf
+settled-judged m row col isMax stands h = rw h (settled-verdict (m .set) (m .thresholds) (m .frame) (nineAt m row col) row col isMax)
+
+hidden-here : (m : Maps) (row col : ℕ) (isMax : Bool) → standsAt m row col isMax ≡ false → judgeOf m row col isMax ≡ Nothing
+hidden-here m row col isMax h = sym (settled-judged m row col isMax false (sym h)) ∙ sym (hidden (m .set) (m .thresholds) (m .frame) (nineAt m row col) row col isMax false refl)
+
+-- a pixel with the mark 0 lists nothing
+pub nothing-stands : (m : Maps) (row col : ℕ) → markOf m row col ≡ 0 → pixelDue m row col ≡ []
+unfolding pixelDue listed
+nothing-stands m row col h =
+    let none = mark-zero m row col h in
+    rw (hidden-here m row col false (none .0), hidden-here m row col true (none .1))
 
 -- ---- how long the due list can be
 

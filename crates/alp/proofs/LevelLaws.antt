@@ -38,6 +38,10 @@ sample-reads l rows row col sigma up left = rw (left-place rows row col left, ri
 pub within-place : {row col : ℕ} {f : Frame} (i : ℕ) → i < 9 → Within 2 f row col → Within 1 f (row + i / 3 - 1) (col + i % 3 - 1)
 within-place i h w = record { top = omega arith; bottom = omega arith; left = omega arith; right = omega arith }
 
+-- a pixel two off the sides is one off them
+pub within-less : {row col : ℕ} {f : Frame} → Within 2 f row col → Within 1 f row col
+within-less w = record { top = omega arith; bottom = omega arith; left = omega arith; right = omega arith }
+
 pub area : {a b : ℕ} → a ≤ 4096 → b ≤ 4096 → a * b ≤ 16777216
 area = mul-le-mul
 
@@ -66,6 +70,9 @@ module _ (samples : ℕ → ℕ → List Float) (row col : ℕ) where
   places-at zero i k h = absurd (not-suc-le-zero h)
   places-at (suc n) i zero h = ap placed (omega arith)
   places-at (suc n) i (suc k) h = places-at n (suc i) k (le-of-suc-le-suc h) ∙ ap placed (omega arith)
+
+  pub length-nine : length (nineOf samples row col) ≡ 9
+  length-nine = length-places 9 0
 
   pub nine-place : (k : ℕ) → k < 9 → getD (nineOf samples row col) k [] ≡ placed k
   nine-place k h = places-at 9 0 k h ∙ ap placed (omega arith)

@@ -2,6 +2,7 @@
 pub mod LevelLaws
 pub mod ViewLaws
 pub mod ViewRows
+pub mod MarksLaws
 pub mod DueLaws
 pub mod DetectLaws
 pub mod RefusalsLaws

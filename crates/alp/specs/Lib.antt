@@ -3,3 +3,4 @@ pub mod Level
 pub mod Due
 pub mod Detect
 pub mod Refusals
+pub mod Marks

@@ -1,5 +1,6 @@
 // The detector's public face.
 mod level; // level.rt: the levels' samples
+mod marks; // marks.rt: the pixels that stand out
 mod candidates; // candidates.rt: the loops over the pixels, and the refusals
 pub mod view; // view.rt: a level as its pixels and its rows
 

@@ -1,6 +1,6 @@
 -- Laws of the judgement of one pixel.
 mod NineLaws
-mod JudgeSteps
 pub mod GateLaws
 pub mod RingLaws
 pub mod VerdictLaws
+pub mod StandsLaws

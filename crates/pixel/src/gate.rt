@@ -5,9 +5,9 @@ ghost use lib.Ieee.{lt};
 ghost use Rattle.float.specs.Num.{f0};
 ghost use Rattle.fit.specs.Prims.{ours};
 ghost use Rattle.pixel.specs.Gate.{sigmaOf, peakOf, strongOf, curvedOf, gateBy};
-ghost use Rattle.pixel.specs.Verdict.{mayList};
+ghost use Rattle.pixel.specs.Stands.{ownsEither, ownOf};
+use crate::Own;
 use fit::Envelope;
-use tables::Set;
 use tables::Thresholds;
 
 // The sigma of a polarity's extreme.
@@ -73,18 +73,24 @@ fn own_gate(th: Thresholds, l: [f32; 4], k: [f32; 4], e: Envelope, is_max: bool)
     gate(th, l, k, sigma_of(e, is_max), peak_of(e, is_max), is_max)
 }
 
-// The pixel with the samples l may list a minimum or a maximum. Most pixels own neither, as comparisons alone tell; the envelope by branches takes a
-// root only where the discriminant is positive, once for both polarities.
-pub fn may_list(set: Set, th: Thresholds, l: [f32; 4]) -> bool
-    ensures { λ r. ⌜ r ≡ mayList set th l ⌝ }
+// An inner level owns the minimum or the maximum of the samples l. Most pixels own neither, as comparisons alone tell.
+pub fn owns_either(l: [f32; 4]) -> bool
+    ensures { λ r. ⌜ r ≡ ownsEither l ⌝ }
 {
-    let low = fit::scale_fit::owns_scale_extremum(l, false);
-    let high = fit::scale_fit::owns_scale_extremum(l, true);
-    if !(low | high) {
-        return false;
-    }
-    let k = fit::scale_fit::apply_cubic_transform(&set.scale, l);
-    let sigmas = set.sigmas;
+    fit::scale_fit::owns_scale_extremum(l, false) | fit::scale_fit::owns_scale_extremum(l, true)
+}
+
+// What the pixel's own samples l tell. The envelope by branches takes a root only where the discriminant is positive, once for both polarities.
+pub fn own(scale: &[f32; 12], sigmas: [f32; 4], th: Thresholds, l: [f32; 4]) -> Own
+    ensures { λ r. ⌜ r ≡ ownOf (now (scale .entry)) sigmas th l ⌝ }
+{
+    let k = fit::scale_fit::apply_cubic_transform(scale, l);
     let e = fit::reference::polynomial_extrema(k, sigmas, l[0], l[3]);
-    own_gate(th, l, k, e, false) | own_gate(th, l, k, e, true)
+    let low = own_gate(th, l, k, e, false);
+    let high = own_gate(th, l, k, e, true);
+    Own {
+        low,
+        high,
+        envelope: e,
+    }
 }

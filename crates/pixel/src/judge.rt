@@ -1,25 +1,18 @@
 // What a pixel lists at one polarity, from the samples at its nine places.
 ghost use mathlib.Core.Path.{_≡_};
-ghost use mathlib.Core.Bool.{_&&_};
-ghost use mathlib.Core.List.{[]};
 ghost use Prim.Native.Nat.{_+_, _*_, _≤_};
 ghost use lib.IntN.{pos};
-ghost use lib.ListN.{getD};
 ghost use lib.Ieee.{binary32, ofInt};
 ghost use Rattle.fit.specs.Cubic.{_at_};
-ghost use Rattle.fit.specs.Prims.{ours};
 ghost use Rattle.fit.specs.Envelope.{shapeOf};
-ghost use Rattle.fit.specs.Band.{bandOf};
 ghost use Rattle.refine.specs.Refine.{refineOf};
-ghost use Rattle.pixel.specs.Gate.{sigmaOf, peakOf, gateBy};
-ghost use Rattle.pixel.specs.Ring.{ringOf};
-ghost use Rattle.pixel.specs.Verdict.{cubicsOf, wholePlace, wholeOf, anchorOf, polarityOf, recordOf, admitOf, verdictOf};
+ghost use Rattle.pixel.specs.Gate.{sigmaOf, peakOf};
+ghost use Rattle.pixel.specs.Verdict.{cubicsOf, wholePlace, wholeOf, anchorOf, polarityOf, recordOf, admitOf};
+ghost use Rattle.pixel.specs.Stands.{settledOf};
 use crate::Frame;
 use crate::Verdict;
-use crate::gate::gate;
 use crate::gate::peak_of;
 use crate::gate::sigma_of;
-use crate::ring::beats_ring;
 use record::Record;
 use refine::Refined;
 use refine::Spot;
@@ -159,18 +152,6 @@ fn spot_at(
     anchor(row, col, sigma, peak, f.octave, is_max)
 }
 
-// The pixel's own gates pass, and its peak beats the eight neighbours.
-fn stands_out(set: Set, th: Thresholds, l: [f32; 4], k: &[[f32; 4]; 9], spot: Spot) -> bool
-    ensures { λ r. ⌜ r ≡ (gateBy ours th l (getD (now (k .entry)) 4 []) (spot .sigma) (spot .peak) (spot .max) && ringOf (now (k .entry)) (spot .peak) (bandOf (set .sigmas) (spot .sigma)) (spot .max)) ⌝ }
-{
-    if !gate(th, l, k[4], spot.sigma, spot.peak, spot.max) {
-        return false;
-    }
-    let sigmas = set.sigmas;
-    let band = fit::scale_fit::neighbor_scale_band(sigmas, spot.sigma);
-    beats_ring(k, spot.peak, band, spot.max)
-}
-
 // What is listed of a spot that stands out: its record, where the refinement and the join accept it.
 fn refined(
     set: Set,
@@ -192,8 +173,8 @@ fn refined(
     )
 }
 
-// What a pixel that owns its extremum lists. Few pixels stand out: the test of all samples comes after.
-fn owned_verdict(
+// What the pixel (row, col) lists at one polarity, told whether it stands out there.
+pub fn settled(
     set: Set,
     th: Thresholds,
     f: Frame,
@@ -201,41 +182,21 @@ fn owned_verdict(
     row: usize,
     col: usize,
     is_max: bool,
+    stands: bool,
 ) -> Verdict
     requires { ⌜ (row ≤ 4096) × (col ≤ 4096) ⌝ }
     requires { ⌜ (f .rows ≤ 4096) × (f .cols ≤ 4096) ⌝ }
-    ensures { λ r. ⌜ r ≡ verdictOf set th f (now (nine .entry)) row col «is_max» ⌝ }
+    ensures { λ r. ⌜ r ≡ settledOf set th f (now (nine .entry)) row col «is_max» stands ⌝ }
 {
-    let places = *nine;
-    let l = places[4];
-    let k = cubics_of(&set.scale, places);
-    let spot = spot_at(set, f, l, k[4], row, col, is_max);
-    if !stands_out(set, th, l, &k, spot) {
+    if !stands {
         return Verdict::Nothing;
     }
+    let places = *nine;
     if !is_whole(places) {
         return Verdict::Nothing;
     }
+    let l = places[4];
+    let k = cubics_of(&set.scale, places);
+    let spot = spot_at(set, f, l, k[4], row, col, is_max);
     refined(set, th, f, l, &k, key_of(row, f.cols, col), spot)
-}
-
-// What the pixel (row, col) lists at one polarity. Most own one polarity at most, as comparisons alone tell.
-pub fn verdict(
-    set: Set,
-    th: Thresholds,
-    f: Frame,
-    nine: &[[f32; 4]; 9],
-    row: usize,
-    col: usize,
-    is_max: bool,
-) -> Verdict
-    requires { ⌜ (row ≤ 4096) × (col ≤ 4096) ⌝ }
-    requires { ⌜ (f .rows ≤ 4096) × (f .cols ≤ 4096) ⌝ }
-    ensures { λ r. ⌜ r ≡ verdictOf set th f (now (nine .entry)) row col «is_max» ⌝ }
-{
-    let l = nine[4];
-    if !fit::scale_fit::owns_scale_extremum(l, is_max) {
-        return Verdict::Nothing;
-    }
-    owned_verdict(set, th, f, nine, row, col, is_max)
 }

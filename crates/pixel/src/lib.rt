@@ -1,8 +1,9 @@
 // The judgement of one pixel: from the samples at its nine places to the record it lists, if any. It knows nothing of maps.
 pub mod gate;
 pub mod judge;
-mod ring;
+pub mod ring;
 
+use fit::Envelope;
 use record::Record;
 
 // The size of a map, and the octave that its records carry.
@@ -16,4 +17,11 @@ pub struct Frame {
 pub enum Verdict {
     Listed(Record),
     Nothing,
+}
+
+// What a pixel's own samples tell: whether its gates pass as a minimum and as a maximum, and its envelope.
+pub struct Own {
+    pub low: bool,
+    pub high: bool,
+    pub envelope: Envelope,
 }

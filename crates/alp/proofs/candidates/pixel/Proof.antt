@@ -1,29 +1,19 @@
--- `candidates::pixel` meets its contract: a pixel that its own samples rule out lists nothing.
+-- `candidates::pixel` meets its contract: a pixel that stands out at neither polarity lists nothing.
+use mathlib.Core.Path.{sym, _∙_}
+use Rattle.alp.specs.Level.{mapsOf}
+use Rattle.alp.proofs.DueLaws.{laid-none, nothing-stands}
 use borrow.Author.Needs.{needs}
-use borrow.Author.Tests.{not-true}
-use mathlib.Core.Bool.{false}
-use mathlib.Core.Path.{_≡_}
-use Rattle.pixel.specs.Verdict.{mayList}
-use Rattle.alp.specs.Level.{mapsOf, samplesAt}
-use Rattle.alp.proofs.DueLaws.{laid-none, ruled-out}
 use Rattle.alp.proofs.candidates.pixel.Statement.{statement}
 use Rattle.alp.proofs.candidates.pixel.Tie as tie
 
-samples-at-requires : tie.Need-samples-at-requires
-samples-at-requires c κs = search needs
-
-may-list-requires : tie.Need-may-list-requires
-may-list-requires c κs = search needs
-
 returns : tie.Need-returns
 returns c =
-    let a = c .before .before .before .before .before .before .before .before .before .args in
+    let a = c .before .before .before .before .before .before .args in
     let m = mapsOf (a .l0 .now) (a .l1 .now) (a .l2 .now) (a .l3 .now) (a .f) (a .set) (a .th) in
-    let nothing : mayList (a .set) (a .th) (samplesAt m (a .row) (a .col)) ≡ false = rw (← c .before .before .samples-at .ensures, ← c .before .may-list .ensures) (not-true (c .before .may-list .result) (c .if1 .taken)) in
-    rw (ruled-out m (a .row) (a .col) nothing) laid-none
+    rw (nothing-stands m (a .row) (a .col) (sym (c .before .before .before .before .before .before .pre .1 .1 .0) ∙ c .if1 .taken)) laid-none
 
 judged-requires : tie.Need-judged-requires
-judged-requires c κs = search needs
+judged-requires c κs = c .before .before .before .before .before .before .before .pre
 
 same-length : tie.Need-same-length
 same-length c = search needs
@@ -32,4 +22,4 @@ returns-2 : tie.Need-returns-2
 returns-2 c = c .before .before .judged .ensures
 
 pub pixel-spec : {M : Type 1} → statement M
-pixel-spec = tie.close (tie.spec samples-at-requires may-list-requires returns judged-requires same-length returns-2)
+pixel-spec = tie.close (tie.spec returns judged-requires same-length returns-2)

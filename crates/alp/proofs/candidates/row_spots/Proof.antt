@@ -2,18 +2,19 @@
 use native.Mathlib.Numerals.{add-one}
 use native.Mathlib.Omega.{arith}
 use mathlib.Core.Path.{_≡_}
-use Prim.Native.Nat.{_≤_, _-_}
+use Prim.Native.Nat.{_+_, _≤_, _-_}
 use Rattle.alp.specs.Level.{mapsOf}
 use Rattle.alp.specs.Due.{Laid, rowDue}
 use Rattle.alp.proofs.DueLaws.{laid-none, laid-append, laid-length, rowDue-short}
+use Rattle.alp.proofs.MarksLaws.{strip-mark}
 use Rattle.alp.proofs.candidates.row_spots.Statement.{statement}
 use Rattle.alp.proofs.candidates.row_spots.Tie as tie
 
 abbrev Inv-loop : tie.InvT-loop
-Inv-loop l0 l1 l2 l3 f set th row out₀ n m₀ k₀ out m k = (k ≤ f .cols - 8) × Laid out₀ out n m (rowDue (mapsOf l0 l1 l2 l3 f set th) row k)
+Inv-loop l0 l1 l2 l3 f set th j marks out₀ n m₀ k₀ out m k = (k ≤ f .cols - 8) × Laid out₀ out n m (rowDue (mapsOf l0 l1 l2 l3 f set th) (j + 4) k)
 
 abbrev μ-loop : tie.MeasureT-loop
-μ-loop l0 l1 l2 l3 f set th row out₀ n m₀ k₀ out m k = f .cols - 8 - k
+μ-loop l0 l1 l2 l3 f set th j marks out₀ n m₀ k₀ out m k = f .cols - 8 - k
 
 loop-holds : tie.Need-loop-holds Inv-loop μ-loop
 unfolding rowDue
@@ -25,15 +26,28 @@ add-if1 c = omega arith
 add-pixel : tie.Need-add-pixel Inv-loop μ-loop
 add-pixel c = omega arith
 
+add-pixel-2 : tie.Need-add-pixel-2 Inv-loop μ-loop
+add-pixel-2 c = omega arith
+
+mul-pixel : tie.Need-mul-pixel Inv-loop μ-loop
+mul-pixel c = let p = c .before .before .before .before .before .before .before .before .pre in omega (arith, p .0 .cols-most)
+
+add-pixel-3 : tie.Need-add-pixel-3 Inv-loop μ-loop
+add-pixel-3 c = let p = c .before .before .before .before .before .before .before .before .pre in omega (arith, p .0 .cols-most)
+
+element-copy-out-pixel : tie.Need-element-copy-out-pixel Inv-loop μ-loop
+element-copy-out-pixel c = let p = c .before .before .before .before .before .before .before .before .pre in omega (arith, p .0 .cols-most)
+
 pixel-requires : tie.Need-pixel-requires Inv-loop μ-loop
 pixel-requires c κs =
-    let a = c .before .before .before .before .before .before .before .before .before .args in
-    let p = c .before .before .before .before .before .before .before .before .before .pre in
-    let l = c .before .before .before .loop in (
+    let a = c .before .before .before .before .before .before .before .before .before .before .args in
+    let p = c .before .before .before .before .before .before .before .before .before .before .pre in
+    let l = c .before .before .before .before .loop in
+    let m = mapsOf (a .l0 .now) (a .l1 .now) (a .l2 .now) (a .l3 .now) (a .f) (a .set) (a .th) in (
       p .0,
       (
-        record { top = p .1 .0 .0; bottom = p .1 .0 .1; left = omega arith; right = omega arith },
-        omega (arith, l .inv .1 .count, rowDue-short (mapsOf (a .l0 .now) (a .l1 .now) (a .l2 .now) (a .l3 .now) (a .f) (a .set) (a .th)) (a .row) (l .k)),
+        record { top = omega arith; bottom = omega arith; left = omega arith; right = omega arith },
+        (strip-mark m (a .j) (l .k) (p .1 .0) (omega arith) (p .1 .1 .0), omega (arith, l .inv .1 .count, rowDue-short m (a .j + 4) (l .k))),
       ),
     )
 
@@ -45,7 +59,7 @@ loop-less c = omega arith
 
 loop-again : tie.Need-loop-again Inv-loop μ-loop
 unfolding rowDue
-loop-again c = (omega arith, rw add-one (laid-append (c .before .before .before .before .before .before .loop .inv .1) (c .before .before .pixel .ensures)))
+loop-again c = (omega arith, rw add-one (laid-append (c .before .before .before .before .before .before .before .loop .inv .1) (c .before .before .pixel .ensures)))
 
 same-length : tie.Need-same-length Inv-loop μ-loop
 same-length c = laid-length (c .before .before .loop .inv .1)
@@ -54,4 +68,4 @@ returns : tie.Need-returns Inv-loop μ-loop
 returns c = let e : c .before .before .loop .k ≡ c .before .before .before .before .before .before .before .before .args .f .cols - 8 = omega arith in rw e at (c .before .before .loop .inv .1)
 
 pub row-spots-spec : {M : Type 1} → statement M
-row-spots-spec = tie.close (tie.spec Inv-loop μ-loop loop-holds add-if1 add-pixel pixel-requires add-k loop-less loop-again same-length returns)
+row-spots-spec = tie.close (tie.spec Inv-loop μ-loop loop-holds add-if1 add-pixel add-pixel-2 mul-pixel add-pixel-3 element-copy-out-pixel pixel-requires add-k loop-less loop-again same-length returns)

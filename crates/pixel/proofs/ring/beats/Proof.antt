@@ -1,0 +1,22 @@
+-- `ring::beats` meets its contract.
+use Rattle.pixel.specs.Stands.{beatsCubic}
+use borrow.Author.Needs.{needs}
+use Rattle.pixel.proofs.ring.beats.Statement.{statement}
+use Rattle.pixel.proofs.ring.beats.Tie as tie
+use Rattle.pixel.proofs.ring.beats.Reads as reads
+use Rattle.pixel.proofs.ring.beats.Lts as lts
+use Rattle.fit.proofs.scale_fit.band_extreme.Reads as band-extreme-reads
+
+band-extreme-requires : tie.Need-band-extreme-requires
+band-extreme-requires c κs = search needs
+
+returns : tie.Need-returns
+unfolding beatsCubic
+returns c = rw (← c .before .band-extreme .ensures, c .if1 .taken)
+
+returns-2 : tie.Need-returns-2
+unfolding beatsCubic
+returns-2 c = rw (← c .before .band-extreme .ensures, c .if1 .left)
+
+pub beats-spec : {M : Type 1} → statement M
+beats-spec = tie.close (tie.spec band-extreme-requires returns returns-2)
