@@ -2,32 +2,32 @@
 use Prim.Native.Nat.{ℕ, zero, suc, _+_, _*_, _/_, _%_, _≤_, _<_}
 use native.Mathlib.Omega.{arith}
 use mathlib.Core.Path.{_≡_, refl, sym, ap, subst, _∙_}
-use mathlib.Core.Bool.{Bool, true, false}
+use mathlib.Core.Bool.{Bool, true, false, not}
 use mathlib.Core.List.{List, [], _∷_}
-use lib.ListN.{length, getD, take}
-use lib.Seq.{getD-take}
+use lib.ListN.{length, getD, take, drop}
+use lib.Seq.{take-take}
 use lib.Dec.{ltb}
-use lib.Ieee.{Float, binary32, ofBits}
-use borrow.Author.Tests.{ltb-false, le-ltb, eq-eqb, not-false}
+use lib.Ieee.{Float}
+use borrow.Author.Tests.{ltb-false, le-ltb, eq-eqb}
 use Rattle.float.proofs.Bools.{neither}
 use Rattle.tables.specs.declared.Set.{Set}
 use Rattle.tables.specs.declared.Thresholds.{Thresholds}
 use Rattle.tables.specs.declared.Refusal.the-variants.{Size, BadSet, Records, Room}
 use Rattle.tables.specs.declared.Checked.the-variants.{Fine, Bad}
+use Rattle.tables.specs.Refusal.{unless}
 use Rattle.tables.specs.Set.{good}
 use Rattle.record.specs.declared.Record.{Record}
-use Rattle.words.specs.Words.{wordFrom, floatFrom}
-use Rattle.record.specs.Layout.{recordFrom, recordAt, laid, written}
+use Rattle.record.specs.Layout.{recordAt, laid, written}
 use Rattle.record.specs.Readable.{readable}
 use Rattle.record.proofs.LayoutLaws.{length-written, laid-first}
 use Rattle.record.proofs.RoundTrip.{recordAt-laid}
+use Rattle.record.proofs.Converse.{same-bytes-same-record}
 use Rattle.alp.specs.Level.{Maps, mapsOf}
 use Rattle.alp.specs.Due.{due}
 use Rattle.alp.specs.Detect.{Outcome, detectOf}
 use Rattle.alp.specs.Refusals.{applies}
 use Rattle.alp.specs.declared.Answer.the-variants.{Found}
 use Rattle.alp.proofs.RefusalsLaws.{found-none}
-use Rattle.tables.specs.Refusal.{unless}
 use Rattle.join.specs.Join.{firstBad, joinChecks, joined, joinOf}
 use Rattle.demands.specs.List.{StandsAt}
 use Rattle.demands.specs.Joined.{Joins}
@@ -37,37 +37,12 @@ use Rattle.demands.proofs.Held.{list-held}
 
 -- ---- records read from the front of a buffer
 
-wordFrom-take : (n : ℕ) (b : List ℕ) (at : ℕ) → at + 4 ≤ n → wordFrom (take n b) at ≡ wordFrom b at
-unfolding wordFrom
-wordFrom-take n b at h =
-    rw (
-      getD-take n b at 0 (omega arith),
-      getD-take n b (at + 1) 0 (omega arith),
-      getD-take n b (at + 2) 0 (omega arith),
-      getD-take n b (at + 3) 0 (omega arith),
-    )
-
-floatFrom-take : (n : ℕ) (b : List ℕ) (at : ℕ) → at + 4 ≤ n → floatFrom (take n b) at ≡ floatFrom b at
-unfolding floatFrom
-floatFrom-take n b at h = ap (ofBits binary32) (wordFrom-take n b at h)
-
-recordFrom-take : (n : ℕ) (b : List ℕ) (at : ℕ) → at + 40 ≤ n → recordFrom (take n b) at ≡ recordFrom b at
-unfolding recordFrom
-recordFrom-take n b at h = λ i. record {
-  x = floatFrom-take n b at (omega arith) i;
-  y = floatFrom-take n b (at + 4) (omega arith) i;
-  sigma = floatFrom-take n b (at + 8) (omega arith) i;
-  peak = floatFrom-take n b (at + 12) (omega arith) i;
-  s0 = floatFrom-take n b (at + 16) (omega arith) i;
-  s1 = floatFrom-take n b (at + 20) (omega arith) i;
-  s2 = floatFrom-take n b (at + 24) (omega arith) i;
-  s3 = floatFrom-take n b (at + 28) (omega arith) i;
-  key = wordFrom-take n b (at + 32) (omega arith) i;
-  octave = getD-take n b (at + 36) 0 (omega arith) i;
-  index = getD-take n b (at + 37) 0 (omega arith) i;
-  polarity = getD-take n b (at + 38) 0 (omega arith) i;
-  spare = getD-take n b (at + 39) 0 (omega arith) i;
-}
+-- the 40 bytes of a record that lies in the front
+own-bytes : (at n : ℕ) (b : List ℕ) → at + 40 ≤ n → take 40 (drop at (take n b)) ≡ take 40 (drop at b)
+own-bytes zero n b h = take-take 40 n b (omega arith)
+own-bytes (suc at) zero b h = let z : ⊥ = omega arith in absurd z
+own-bytes (suc at) (suc n) [] h = refl
+own-bytes (suc at) (suc n) (x ∷ b) h = own-bytes at n b (omega arith)
 
 -- a record stands at each place of a list
 stands-there : (rs : List Record) (i : ℕ) (d : Record) → i < length rs → StandsAt rs i (getD rs i d)
@@ -85,11 +60,12 @@ none-bad rows cols b zero i all = omega arith
 none-bad rows cols b (suc n) i all =
     rw (all i (omega arith) (omega arith)) (none-bad rows cols b n (suc i) (λ k p q. all k (omega arith) (omega arith)) ∙ omega arith)
 
--- a room that is short is not a bad record
-room-only : (t : Bool) (i : ℕ) → unless t Room Fine ≡ Bad (Records i) → ⊥
+-- a bad set or a short room is not a bad record
+set-or-room : (a b : Bool) (i : ℕ) → unless a BadSet (unless b Room Fine) ≡ Bad (Records i) → ⊥
 unfolding unless
-room-only true i h = let z : _≡_ {A = ℕ} 0 1 = cc in omega arith
-room-only false i h = let z : _≡_ {A = ℕ} 0 1 = cc in omega arith
+set-or-room true b i h = let z : _≡_ {A = ℕ} 0 1 = cc in omega arith
+set-or-room false true i h = let z : _≡_ {A = ℕ} 0 1 = cc in omega arith
+set-or-room false false i h = let z : _≡_ {A = ℕ} 0 1 = cc in omega arith
 
 -- ---- records laid in a buffer
 
@@ -111,38 +87,38 @@ module _ (m : Maps) (out : List ℕ) (rows-most : m .frame .rows ≤ 4096) (cols
       let d : Record = recordAt bytes i in
       let there = stands-there (due m) i d (omega arith) in
       let held = list-held m _ rows-most cols-most (record { place = i; there = there }) in
-      let read = recordFrom-take (count * 40) (laid (due m) out) (i * 40) (omega arith) ∙ recordAt-laid (due m) out i d h held in
+      let read = same-bytes-same-record (take (count * 40) (laid (due m) out)) (laid (due m) out) (i * 40) (i * 40) (own-bytes (i * 40) (count * 40) (laid (due m) out) (omega arith)) ∙ recordAt-laid (due m) out i d h held in
       subst (StandsAt (due m) i) (sym read) there
 
   read-readable : (i : ℕ) → i < count → readable (m .frame .rows) (m .frame .cols) (recordAt bytes i) ≡ true
   read-readable i h = join-accepts m _ (record { place = i; there = read-back i h })
 
-  -- of the join's checks only the room's is open
-  room-open : (s : Set) (room : ℕ) → good s ≡ true → joinChecks s (m .frame .rows) (m .frame .cols) bytes room ≡ unless (ltb room (count * 52)) Room Fine
+  -- of the join's checks only the set's and the room's are open
+  checks-open : (t : Set) (room : ℕ) → joinChecks t (m .frame .rows) (m .frame .cols) bytes room ≡ unless (not (good t)) BadSet (unless (ltb room (count * 52)) Room Fine)
   unfolding joinChecks unless
-  room-open s room is-good =
+  checks-open t room =
       let whole : length bytes % 40 ≡ 0 = omega (arith, length-bytes) in
       let number : length bytes / 40 ≡ count = omega (arith, length-bytes) in
       let none : firstBad (m .frame .rows) (m .frame .cols) bytes count 0 ≡ count = none-bad _ _ bytes count 0 (λ k p q. read-readable k (omega arith)) ∙ omega arith in
-      rw (le-ltb _ _ rows-most, le-ltb _ _ cols-most, is-good, eq-eqb _ _ whole, number, none, le-ltb count count (omega arith))
+      rw (le-ltb _ _ rows-most, le-ltb _ _ cols-most, eq-eqb _ _ whole, number, none, le-ltb count count (omega arith))
 
-  -- and with room for the sized records it passes
-  room-enough : (s : Set) (room : ℕ) → good s ≡ true → count * 52 ≤ room → joinChecks s (m .frame .rows) (m .frame .cols) bytes room ≡ Fine
+  -- and with a good set and room for the sized records they pass
+  room-enough : (t : Set) (room : ℕ) → good t ≡ true → count * 52 ≤ room → joinChecks t (m .frame .rows) (m .frame .cols) bytes room ≡ Fine
   unfolding unless
-  room-enough s room is-good h = room-open s room is-good ∙ rw (le-ltb _ _ h)
+  room-enough t room is-good h = checks-open t room ∙ rw (is-good, le-ltb _ _ h)
 
-  joins : (s : Set) → good s ≡ true → Joins s (m .frame .rows) (m .frame .cols) (due m) count bytes
+  joins : Joins (m .frame .rows) (m .frame .cols) (due m) count bytes
   unfolding joinOf joined
-  joins s is-good =
+  joins =
       let number : length bytes / 40 ≡ count = omega (arith, length-bytes) in
       record {
         whole = omega (arith, length-bytes);
         count-is = number;
         as-found = read-back;
         each-readable = read-readable;
-        not-records = λ room i h. room-only (ltb room (count * 52)) i (sym (room-open s room is-good) ∙ h);
-        fine = λ room h. room-enough s room is-good (omega arith);
-        answer = λ out' h. rw (room-enough s (length out') is-good (omega arith), number);
+        not-records = λ t room i h. set-or-room (not (good t)) (ltb room (count * 52)) i (sym (checks-open t room) ∙ h);
+        fine = λ t room is-good h. room-enough t room is-good (omega arith);
+        answer = λ t out' is-good h. rw (room-enough t (length out') is-good (omega arith), number);
       }
 
 -- ---- a call
@@ -156,14 +132,13 @@ module _ (s : Set) (th : Thresholds) (rows cols octave : ℕ) (l0 l1 l2 l3 : Lis
   abbrev after : Outcome
   after = detectOf s th rows cols octave l0 l1 l2 l3 out
 
-  -- The records that a call of detection wrote are accepted by the join with the same set, rows and cols: there is no refusal 5, and with room for the sized records their count is answered.
-  pub output-joined : (n : ℕ) → after .answer ≡ Found n → Joins s rows cols found (written found out) (take (written found out * 40) (after .buffer))
+  -- The records that a call of detection wrote are accepted by the join with the same rows and cols: there is no refusal 5, and with a good set and room for the sized records their count is answered.
+  pub output-joined : (n : ℕ) → after .answer ≡ Found n → Joins rows cols found (written found out) (take (written found out * 40) (after .buffer))
   unfolding applies
   output-joined n h =
       let none = found-none s th rows cols octave l0 l1 l2 l3 out n h in
       let sides = neither (ltb 4096 rows) (ltb 4096 cols) (none Size) in
-      let is-good : good s ≡ true = not-false (good s) (none BadSet) in
       let m : Maps = mapsOf l0 l1 l2 l3 (record { rows = rows; cols = cols; octave = octave }) s th in
       let wrote : after .buffer ≡ laid found out = unfold detectOf in ap (λ (o : Outcome). o .buffer) (answered _ m out n h) in
-      subst (λ (b : List ℕ). Joins s rows cols found (written found out) (take (written found out * 40) b)) (sym wrote)
-      (joins m out (ltb-false 4096 rows (sides .0)) (ltb-false 4096 cols (sides .1)) s is-good)
+      subst (λ (b : List ℕ). Joins rows cols found (written found out) (take (written found out * 40) b)) (sym wrote)
+      (joins m out (ltb-false 4096 rows (sides .0)) (ltb-false 4096 cols (sides .1)))
