@@ -1,4 +1,4 @@
--- Bytes that were read as a record are written as they were, and a record is read of its own 40 bytes alone. Assumes nothing.
+-- Bytes that were read as a record are written as they were, and a record is read of its own bytes alone. Assumes nothing.
 use Prim.Native.Nat.{ℕ, suc, _+_, _*_, _/_, _%_, _^_, _≤_, _<_}
 use native.Mathlib.Nat.{div-div-eq-div-mul, mod-eq-of-lt}
 use native.Mathlib.Omega.{arith}
@@ -12,16 +12,16 @@ use lib.Ieee.{Float, nan, inf, fin, binary32, isNan, ofBits}
 use lib.Ieee.Bits.{toBits-ofBits}
 use Rattle.float.specs.Small.{finite}
 use Rattle.words.specs.Words.{wordBytes, floatBytes, wordFrom, floatFrom}
-use Rattle.record.specs.Layout.{floats4, recordBytes, recordFrom}
+use Rattle.record.specs.Layout.{spotWidth, floats4, recordBytes, recordFrom}
 use Rattle.record.specs.Readable.{Finite}
 
 -- ---- a record's own bytes
 
 module _ (b : List ℕ) (at : ℕ) where
-  own-byte : (k : ℕ) → k < 40 → getD (take 40 (drop at b)) k 0 ≡ getD b (at + k) 0
-  own-byte k h = getD-take 40 (drop at b) k 0 h ∙ getD-drop at b k 0
+  own-byte : (k : ℕ) → k < spotWidth → getD (take spotWidth (drop at b)) k 0 ≡ getD b (at + k) 0
+  own-byte k h = getD-take spotWidth (drop at b) k 0 h ∙ getD-drop at b k 0
 
-  own-word : (k : ℕ) → k + 4 ≤ 40 → wordFrom (take 40 (drop at b)) k ≡ wordFrom b (at + k)
+  own-word : (k : ℕ) → k + 4 ≤ spotWidth → wordFrom (take spotWidth (drop at b)) k ≡ wordFrom b (at + k)
   unfolding wordFrom
   own-word k h =
       let e1 : at + k + 1 ≡ at + (k + 1) = omega arith in
@@ -29,12 +29,12 @@ module _ (b : List ℕ) (at : ℕ) where
       let e3 : at + k + 3 ≡ at + (k + 3) = omega arith in
       rw (own-byte k (omega arith), own-byte (k + 1) (omega arith), own-byte (k + 2) (omega arith), own-byte (k + 3) (omega arith), e1, e2, e3)
 
-  own-float : (k : ℕ) → k + 4 ≤ 40 → floatFrom (take 40 (drop at b)) k ≡ floatFrom b (at + k)
+  own-float : (k : ℕ) → k + 4 ≤ spotWidth → floatFrom (take spotWidth (drop at b)) k ≡ floatFrom b (at + k)
   unfolding floatFrom
   own-float k h = ap (ofBits binary32) (own-word k h)
 
-  -- a record is read of the 40 bytes that begin where it does
-  pub record-own : recordFrom (take 40 (drop at b)) 0 ≡ recordFrom b at
+  -- a record is read of the bytes of its width that begin where it does
+  pub record-own : recordFrom (take spotWidth (drop at b)) 0 ≡ recordFrom b at
   unfolding recordFrom
   record-own = λ i. record {
     x = first i;
@@ -52,11 +52,11 @@ module _ (b : List ℕ) (at : ℕ) where
     spare = own-byte 39 (omega arith) i;
   }
     where
-      first : floatFrom (take 40 (drop at b)) 0 ≡ floatFrom b at
+      first : floatFrom (take spotWidth (drop at b)) 0 ≡ floatFrom b at
       first = let start : at + 0 ≡ at = omega arith in own-float 0 (omega arith) ∙ ap (floatFrom b) start
 
 -- equal bytes are read as equal records, wherever they stand
-pub same-bytes-same-record : (b c : List ℕ) (at to : ℕ) → take 40 (drop at b) ≡ take 40 (drop to c) → recordFrom b at ≡ recordFrom c to
+pub same-bytes-same-record : (b c : List ℕ) (at to : ℕ) → take spotWidth (drop at b) ≡ take spotWidth (drop to c) → recordFrom b at ≡ recordFrom c to
 same-bytes-same-record b c at to e = sym (record-own b at) ∙ ap (λ (own : List ℕ). recordFrom own 0) e ∙ record-own c to
 
 -- ---- one word
@@ -128,7 +128,7 @@ module _ (b : List ℕ) (bytes : (k : ℕ) → getD b k 0 < 256) where
   bytes-kept at p q r hp hq hr h = rw (hp, hq, hr) (sym (four-taken at h))
 
   -- a finite record's bytes are those of which it was read
-  pub record-kept : (at : ℕ) → at + 40 ≤ length b → Finite (recordFrom b at) → recordBytes (recordFrom b at) ≡ take 40 (drop at b)
+  pub record-kept : (at : ℕ) → at + spotWidth ≤ length b → Finite (recordFrom b at) → recordBytes (recordFrom b at) ≡ take spotWidth (drop at b)
   unfolding recordBytes recordFrom
   record-kept at h f =
       rw (
@@ -138,5 +138,5 @@ module _ (b : List ℕ) (bytes : (k : ℕ) → getD b k 0 < 256) where
         bytes-kept (at + 36) (at + 37) (at + 38) (at + 39) (omega arith) (omega arith) (omega arith) (omega arith),
         joined 4 4 8 (at + 32) (at + 36) (omega arith) refl,
         joined 16 8 24 (at + 16) (at + 32) (omega arith) refl,
-        joined 16 24 40 at (at + 16) refl refl,
+        joined 16 24 spotWidth at (at + 16) refl refl,
       )

@@ -13,7 +13,7 @@ use borrow.Author.Tests.{le-leb, lt-leb}
 use Rattle.words.specs.Words.{wordBytes, floatBytes}
 use Rattle.words.proofs.Stores.{sets-append}
 use Rattle.words.proofs.WordsLaws.{length-wordBytes}
-use Rattle.record.specs.Layout.{floats4, recordBytes, put, lay, bytesOf, laid, written}
+use Rattle.record.specs.Layout.{spotWidth, floats4, recordBytes, put, lay, bytesOf, laid, written}
 use Rattle.record.specs.declared.Record.{Record}
 
 -- ---- lengths
@@ -22,11 +22,11 @@ pub length-floats4 : (a b c d : Float) → length (floats4 a b c d) ≡ 16
 unfolding floats4 floatBytes wordBytes
 length-floats4 a b c d = refl
 
-pub length-recordBytes : (r : Record) → length (recordBytes r) ≡ 40
+pub length-recordBytes : (r : Record) → length (recordBytes r) ≡ spotWidth
 unfolding recordBytes floats4 floatBytes wordBytes
 length-recordBytes r = refl
 
-pub length-bytesOf : (rs : List Record) → length (bytesOf rs) ≡ length rs * 40
+pub length-bytesOf : (rs : List Record) → length (bytesOf rs) ≡ length rs * spotWidth
 unfolding bytesOf
 length-bytesOf [] = refl
 length-bytesOf (r ∷ rs) = omega (arith, length-append (recordBytes r) (bytesOf rs), length-recordBytes r, length-bytesOf rs)
@@ -37,7 +37,7 @@ length-chosen false x y h = refl
 
 pub length-put : (out : List ℕ) (n : ℕ) (r : Record) → length (put out n r) ≡ length out
 unfolding put
-length-put out n r = length-chosen (leb (n * 40 + 40) (length out)) (sets out (n * 40) (recordBytes r)) out (length-sets out (n * 40) (recordBytes r))
+length-put out n r = length-chosen (leb (n * spotWidth + spotWidth) (length out)) (sets out (n * spotWidth) (recordBytes r)) out (length-sets out (n * spotWidth) (recordBytes r))
 
 pub length-lay : (rs : List Record) (out : List ℕ) (n : ℕ) → length (lay out n rs) ≡ length out
 unfolding lay
@@ -71,46 +71,46 @@ unfolding lay
 lay-append [] ss out n = rw add-zero
 lay-append (r ∷ rs) ss out n = rw (add-suc, ← suc-add) (lay-append rs ss (put out n r) (suc n))
 
-pub put-room : (out : List ℕ) (n : ℕ) (r : Record) → n * 40 + 40 ≤ length out → put out n r ≡ sets out (n * 40) (recordBytes r)
+pub put-room : (out : List ℕ) (n : ℕ) (r : Record) → n * spotWidth + spotWidth ≤ length out → put out n r ≡ sets out (n * spotWidth) (recordBytes r)
 unfolding put
 put-room out n r h = rw (le-leb _ _ h)
 
-pub put-full : (out : List ℕ) (n : ℕ) (r : Record) → length out < n * 40 + 40 → put out n r ≡ out
+pub put-full : (out : List ℕ) (n : ℕ) (r : Record) → length out < n * spotWidth + spotWidth → put out n r ≡ out
 unfolding put
 put-full out n r h = rw (lt-leb _ _ h)
 
 -- d more records fit
-lay-step : (r : Record) (rs : List Record) (out : List ℕ) (n d : ℕ) → length out / 40 - n ≡ d
-    → ((o : List ℕ) (k : ℕ) → lay o k rs ≡ sets o (k * 40) (bytesOf (take (length o / 40 - k) rs)))
-    → lay (put out n r) (suc n) rs ≡ sets out (n * 40) (bytesOf (take d (r ∷ rs)))
+lay-step : (r : Record) (rs : List Record) (out : List ℕ) (n d : ℕ) → length out / spotWidth - n ≡ d
+    → ((o : List ℕ) (k : ℕ) → lay o k rs ≡ sets o (k * spotWidth) (bytesOf (take (length o / spotWidth - k) rs)))
+    → lay (put out n r) (suc n) rs ≡ sets out (n * spotWidth) (bytesOf (take d (r ∷ rs)))
 unfolding bytesOf
 lay-step r rs out n zero e ih =
-    let none : length out / 40 - suc n ≡ 0 = omega arith in
-    let full : length out < n * 40 + 40 = omega arith in
+    let none : length out / spotWidth - suc n ≡ 0 = omega arith in
+    let full : length out < n * spotWidth + spotWidth = omega arith in
     rw (put-full out n r full, ih out (suc n), none)
 lay-step r rs out n (suc d) e ih =
-    let room : n * 40 + 40 ≤ length out = omega arith in
-    let more : length (put out n r) / 40 - suc n ≡ d = omega (arith, length-put out n r) in
-    let next : suc n * 40 ≡ n * 40 + 40 = omega arith in
+    let room : n * spotWidth + spotWidth ≤ length out = omega arith in
+    let more : length (put out n r) / spotWidth - suc n ≡ d = omega (arith, length-put out n r) in
+    let next : suc n * spotWidth ≡ n * spotWidth + spotWidth = omega arith in
     rw (ih (put out n r) (suc n), more, next, put-room out n r room, sets-append (recordBytes r), length-recordBytes r)
 
 -- they are one run of stores, of the records that fit
-pub lay-sets : (rs : List Record) (out : List ℕ) (n : ℕ) → lay out n rs ≡ sets out (n * 40) (bytesOf (take (length out / 40 - n) rs))
+pub lay-sets : (rs : List Record) (out : List ℕ) (n : ℕ) → lay out n rs ≡ sets out (n * spotWidth) (bytesOf (take (length out / spotWidth - n) rs))
 unfolding lay bytesOf
 lay-sets [] out n = rw take-nil
-lay-sets (r ∷ rs) out n = lay-step r rs out n (length out / 40 - n) refl (λ o k. lay-sets rs o k)
+lay-sets (r ∷ rs) out n = lay-step r rs out n (length out / spotWidth - n) refl (λ o k. lay-sets rs o k)
 
 -- ---- the buffer as a whole
 
-pub length-written : (rs : List Record) (out : List ℕ) → length (bytesOf (take (length out / 40) rs)) ≡ written rs out * 40
-length-written rs out = rw (length-bytesOf (take (length out / 40) rs), length-take (length out / 40) rs)
+pub length-written : (rs : List Record) (out : List ℕ) → length (bytesOf (take (length out / spotWidth) rs)) ≡ written rs out * spotWidth
+length-written rs out = rw (length-bytesOf (take (length out / spotWidth) rs), length-take (length out / spotWidth) rs)
 
 pub lay-laid : (rs : List Record) (out : List ℕ) → lay out 0 rs ≡ laid rs out
 unfolding laid
 lay-laid rs out =
-    let b : List ℕ = bytesOf (take (length out / 40) rs) in
+    let b : List ℕ = bytesOf (take (length out / spotWidth) rs) in
     let fits : 0 + length b ≤ length out = omega (arith, length-written rs out) in
-    let all : length out / 40 - 0 ≡ length out / 40 = omega arith in
+    let all : length out / spotWidth - 0 ≡ length out / spotWidth = omega arith in
     let start : 0 + length b ≡ length b = omega arith in
     rw (lay-sets rs out 0, all) (sets-eq b out 0 fits ∙ ap (λ (k : ℕ). b ++ drop k out) start)
 
@@ -118,18 +118,18 @@ pub length-laid : (rs : List Record) (out : List ℕ) → length (laid rs out) �
 length-laid rs out = ap length (sym (lay-laid rs out)) ∙ length-lay rs out 0
 
 -- the records that fit stand first
-pub laid-first : (rs : List Record) (out : List ℕ) → take (written rs out * 40) (laid rs out) ≡ bytesOf (take (length out / 40) rs)
+pub laid-first : (rs : List Record) (out : List ℕ) → take (written rs out * spotWidth) (laid rs out) ≡ bytesOf (take (length out / spotWidth) rs)
 unfolding laid
-laid-first rs out = take-at (bytesOf (take (length out / 40) rs)) _ (written rs out * 40) (length-written rs out)
+laid-first rs out = take-at (bytesOf (take (length out / spotWidth) rs)) _ (written rs out * spotWidth) (length-written rs out)
 
 -- what lies past the records is kept
-pub laid-rest : (rs : List Record) (out : List ℕ) → drop (written rs out * 40) (laid rs out) ≡ drop (written rs out * 40) out
+pub laid-rest : (rs : List Record) (out : List ℕ) → drop (written rs out * spotWidth) (laid rs out) ≡ drop (written rs out * spotWidth) out
 unfolding laid
 laid-rest rs out =
-    drop-at (bytesOf (take (length out / 40) rs)) _ (written rs out * 40) (length-written rs out) ∙ ap (λ (k : ℕ). drop k out) (length-written rs out)
+    drop-at (bytesOf (take (length out / spotWidth) rs)) _ (written rs out * spotWidth) (length-written rs out) ∙ ap (λ (k : ℕ). drop k out) (length-written rs out)
 
-pub laid-keeps : (rs : List Record) (out : List ℕ) (i : ℕ) → written rs out * 40 ≤ i → getD (laid rs out) i 0 ≡ getD out i 0
+pub laid-keeps : (rs : List Record) (out : List ℕ) (i : ℕ) → written rs out * spotWidth ≤ i → getD (laid rs out) i 0 ≡ getD out i 0
 laid-keeps rs out i h =
-    let k : ℕ = written rs out * 40 in
+    let k : ℕ = written rs out * spotWidth in
     let e : k + (i - k) ≡ i = omega arith in
     rw (← e, ← getD-drop k (laid rs out) (i - k) 0, laid-rest rs out, getD-drop k out (i - k) 0)

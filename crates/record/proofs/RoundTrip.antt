@@ -10,7 +10,7 @@ use lib.Dec.{T}
 use lib.Ieee.{Float, binary32, fits}
 use Rattle.words.specs.Words.{wordBytes, floatBytes, wordFrom, floatFrom}
 use Rattle.words.proofs.WordsLaws.{wordFrom-append, floatFrom-append, wordFrom-wordBytes, floatFrom-floatBytes}
-use Rattle.record.specs.Layout.{floats4, recordBytes, bytesOf, laid, written, recordFrom, recordAt, Held}
+use Rattle.record.specs.Layout.{spotWidth, floats4, recordBytes, bytesOf, laid, written, recordFrom, recordAt, Held}
 use Rattle.record.specs.declared.Record.{Record}
 use Rattle.record.proofs.LayoutLaws.{length-bytesOf}
 
@@ -62,12 +62,12 @@ among rs rest i d l h =
     let front : List ℕ = bytesOf (take i rs) in
     let after : List ℕ = bytesOf (drop (suc i) rs) ++ rest in
     let parts : bytesOf rs ++ rest ≡ front ++ (recordBytes r ++ after) = ap (λ (ss : List Record). bytesOf ss ++ rest) (split-at rs i d l) ∙ rw (bytesOf-append (take i rs) (r ∷ drop (suc i) rs)) (simp append-assoc) in
-    let start : length front ≡ i * 40 = omega (arith, length-bytesOf (take i rs), length-take i rs) in
+    let start : length front ≡ i * spotWidth = omega (arith, length-bytesOf (take i rs), length-take i rs) in
     rw (parts, ← start) (recordFrom-recordBytes front after r h)
 
 pub recordAt-laid : (rs : List Record) (out : List ℕ) (i : ℕ) (d : Record) → i < written rs out → Held (getD rs i d) → recordAt (laid rs out) i ≡ getD rs i d
 unfolding laid
 recordAt-laid rs out i d w h =
-    let n : ℕ = length out / 40 in
+    let n : ℕ = length out / spotWidth in
     let same : getD (take n rs) i d ≡ getD rs i d = getD-take n rs i d (omega arith) in
     among (take n rs) _ i d (omega (arith, length-take n rs)) (rw same h) ∙ same

@@ -9,13 +9,17 @@ use lib.Ieee.{Float, binary32, fits}
 use Rattle.words.specs.Words.{wordBytes, floatBytes, wordFrom, floatFrom}
 use Rattle.record.specs.declared.Record.{Record}
 
+-- how many bytes a record has
+abbrev pub spotWidth : ℕ
+spotWidth = 40
+
 -- ---- writing
 
 -- four floats' bytes
 unfoldable pub floats4 : Float → Float → Float → Float → List ℕ
 floats4 a b c d = floatBytes a ++ (floatBytes b ++ (floatBytes c ++ floatBytes d))
 
--- the 40 bytes: x, y, sigma, peak, the four centre samples, order key, octave, scale index, polarity, a spare byte
+-- its bytes: x, y, sigma, peak, the four centre samples, order key, octave, scale index, polarity, a spare byte
 unfoldable pub recordBytes : Record → List ℕ
 recordBytes r =
     floats4 (r .x) (r .y) (r .sigma) (r .peak) ++ (floats4 (r .s0) (r .s1) (r .s2) (r .s3)
@@ -23,7 +27,7 @@ recordBytes r =
 
 -- the record r at place n of the buffer, where it has room for it whole
 unfoldable pub put : List ℕ → ℕ → Record → List ℕ
-put out n r = cond (leb (n * 40 + 40) (length out)) (sets out (n * 40) (recordBytes r)) out
+put out n r = cond (leb (n * spotWidth + spotWidth) (length out)) (sets out (n * spotWidth) (recordBytes r)) out
 
 -- the records at the places n, n + 1, ..
 unfoldable pub lay : List ℕ → ℕ → List Record → List ℕ
@@ -37,11 +41,11 @@ bytesOf (r ∷ rs) = recordBytes r ++ bytesOf rs
 
 -- the whole records that fit, first ones first, then the old bytes
 unfoldable pub laid : List Record → List ℕ → List ℕ
-laid rs out = let b = bytesOf (take (length out / 40) rs) in b ++ drop (length b) out
+laid rs out = let b = bytesOf (take (length out / spotWidth) rs) in b ++ drop (length b) out
 
 -- how many of the records fit
 abbrev pub written : List Record → List ℕ → ℕ
-written rs out = min (length out / 40) (length rs)
+written rs out = min (length out / spotWidth) (length rs)
 
 -- ---- reading
 
@@ -65,7 +69,7 @@ recordFrom b at = record {
 
 -- the n-th record of a list's bytes
 abbrev pub recordAt : List ℕ → ℕ → Record
-recordAt b n = recordFrom b (n * 40)
+recordAt b n = recordFrom b (n * spotWidth)
 
 -- each of its floats is a value of binary32, and its key is a word
 pub record Held (r : Record) : Type 0 where

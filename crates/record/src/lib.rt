@@ -1,10 +1,13 @@
-// A spot's record: its values, its 40 bytes, and when a record is readable. The layout stands here and nowhere else.
+// A spot's record: its values, its bytes, and when a record is readable. The layout stands here and nowhere else.
 ghost use mathlib.Core.Path.{_≡_};
 ghost use Prim.Native.Nat.{_+_, _<_, _≤_, _^_};
 ghost use lib.ListN.{length};
 ghost use lib.Seq.{sets};
-ghost use Rattle.record.specs.Layout.{floats4, recordBytes, put, recordFrom};
+ghost use Rattle.record.specs.Layout.{spotWidth, floats4, recordBytes, put, recordFrom};
 ghost use Rattle.record.specs.Readable.{finiteRecord, within, onSide, readable};
+
+// How many bytes a record has.
+pub const SPOT_WIDTH: usize = 40;
 
 pub struct Record {
     pub x: f32,
@@ -35,9 +38,9 @@ fn put_floats(out: &mut [u8], at: usize, a: f32, b: f32, c: f32, d: f32)
     words::put_float(out, at + 12, d);
 }
 
-// The record's 40 bytes from the byte at on.
+// The record's bytes from the byte at on.
 pub fn put_record(out: &mut [u8], at: usize, r: Record)
-    requires { ⌜ at + 40 ≤ length (now out) ⌝ }
+    requires { ⌜ at + spotWidth ≤ length (now out) ⌝ }
     ensures { λ _. ⌜ now (out .exit) ≡ sets (now (out .entry)) at (recordBytes r) ⌝ }
 {
     put_floats(out, at, r.x, r.y, r.sigma, r.peak);
@@ -51,8 +54,8 @@ pub fn put_at(out: &mut [u8], n: usize, r: Record)
     requires { ⌜ n < 2 ^ 32 ⌝ }
     ensures { λ _. ⌜ now (out .exit) ≡ put (now (out .entry)) n r ⌝ }
 {
-    let at = n * 40;
-    if at + 40 <= out.len() {
+    let at = n * SPOT_WIDTH;
+    if at + SPOT_WIDTH <= out.len() {
         put_record(out, at, r);
     }
 }
@@ -61,7 +64,7 @@ pub fn put_at(out: &mut [u8], n: usize, r: Record)
 
 // The record that begins at the byte at.
 pub fn record_from(b: &[u8], at: usize) -> Record
-    requires { ⌜ at + 40 ≤ length (now b) ⌝ }
+    requires { ⌜ at + spotWidth ≤ length (now b) ⌝ }
     ensures { λ r. ⌜ r ≡ recordFrom (now (b .entry)) at ⌝ }
 {
     Record {
