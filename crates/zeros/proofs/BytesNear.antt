@@ -16,7 +16,7 @@ use Rattle.float.proofs.Floats.{zero-eq-zero}
 use Rattle.fit.specs.Near.{Near, same, zeros}
 use Rattle.record.specs.declared.Record.{Record}
 use Rattle.words.specs.Words.{wordBytes, floatBytes}
-use Rattle.record.specs.Layout.{floats4, recordBytes, bytesOf, laid}
+use Rattle.record.specs.Layout.{spotWidth, floats4, recordBytes, bytesOf, laid}
 use Rattle.record.proofs.LayoutLaws.{length-recordBytes, length-bytesOf}
 use Rattle.alp.specs.Level.{Maps}
 use Rattle.alp.specs.Due.{due}
@@ -55,7 +55,7 @@ module _ (l : List ℕ) (u v : ℕ) where
   set-near : 15 < length l → u % 128 ≡ v % 128 → BytesNear (set l 15 u) (set l 15 v)
   set-near h e = record {
     long = length-set l 15 u ∙ sym (length-set l 15 v);
-    others = λ n ne. other n (λ (q : n ≡ 15). ne (ap (λ (z : ℕ). z % 40) q));
+    others = λ n ne. other n (λ (q : n ≡ 15). ne (ap (λ (z : ℕ). z % spotWidth) q));
     signs = λ n. at n (eqb n 15) refl;
   }
     where
@@ -66,7 +66,7 @@ module _ (l : List ℕ) (u v : ℕ) where
 getD-past : (a b : List ℕ) (n : ℕ) → length a ≤ n → getD (a ++ b) n 0 ≡ getD b (n - length a) 0
 getD-past a b n h = let e : n ≡ length a + (n - length a) = omega arith in ap (λ (z : ℕ). getD (a ++ b) z 0) e ∙ getD-append-add a b (n - length a) 0
 
-module _ {x x' y y' : List ℕ} (whole : length x % 40 ≡ 0) (X : BytesNear x x') (Y : BytesNear y y') where
+module _ {x x' y y' : List ℕ} (whole : length x % spotWidth ≡ 0) (X : BytesNear x x') (Y : BytesNear y y') where
   -- what holds of the bytes of both parts holds of those of the whole
   joined : (S : ℕ → ℕ → Type 0) (n : ℕ) → S (getD x n 0) (getD x' n 0) → (length x ≤ n → S (getD y (n - length x) 0) (getD y' (n - length x) 0)) → S (getD (x ++ y) n 0) (getD (x' ++ y') n 0)
   joined S n p q = go (leb (length x) n) refl where
@@ -95,7 +95,7 @@ zero-near r (zeros {s = s} {t = t}) =
     let l : List ℕ = recordBytes (withPeak r (fin false 0 (pos 0))) in
     rw (zero-peak r s, zero-peak r t) (set-near l (signed s) (signed t) (omega (arith, length-recordBytes (withPeak r (fin false 0 (pos 0))))) (signed-same s t))
 
--- two records' 40 bytes are equal but for byte 15, and there but for the sign
+-- two records' bytes are equal but for byte 15, and there but for the sign
 pub record-bytes~ : {a b : Record} → RecordNear a b → BytesNear (recordBytes a) (recordBytes b)
 unfolding withPeak
 record-bytes~ {a = a} {b = b} R = subst (λ z. BytesNear (recordBytes a) (recordBytes z)) (with-peak~ R (b .peak)) (zero-near a (R .peak))
@@ -108,17 +108,17 @@ record-bytes-differ {a = a} {b = b} R = subst (λ z. (recordBytes a ≡ recordBy
   go r same = inl refl
   go r (zeros {s = s} {t = t}) = inr (zero-eq-zero s (pos 0), zero-eq-zero t (pos 0))
 
-record-byte : {a b : Record} → RecordNear a b → (n : ℕ) → (getD (recordBytes a) n 0 ≡ getD (recordBytes b) n 0) ⊎ ((n % 40 ≡ 15) × ZeroPeaks a b)
-record-byte {a = a} {b = b} R n = go (record-bytes-differ R) (eqb (n % 40) 15) refl where
-  go : (recordBytes a ≡ recordBytes b) ⊎ ZeroPeaks a b → (t : Bool) → eqb (n % 40) 15 ≡ t →
-      (getD (recordBytes a) n 0 ≡ getD (recordBytes b) n 0) ⊎ ((n % 40 ≡ 15) × ZeroPeaks a b)
+record-byte : {a b : Record} → RecordNear a b → (n : ℕ) → (getD (recordBytes a) n 0 ≡ getD (recordBytes b) n 0) ⊎ ((n % spotWidth ≡ 15) × ZeroPeaks a b)
+record-byte {a = a} {b = b} R n = go (record-bytes-differ R) (eqb (n % spotWidth) 15) refl where
+  go : (recordBytes a ≡ recordBytes b) ⊎ ZeroPeaks a b → (t : Bool) → eqb (n % spotWidth) 15 ≡ t →
+      (getD (recordBytes a) n 0 ≡ getD (recordBytes b) n 0) ⊎ ((n % spotWidth ≡ 15) × ZeroPeaks a b)
   go (inl e) t q = inl (ap (λ (l : List ℕ). getD l n 0) e)
-  go (inr z) true q = inr (eqb-true (n % 40) 15 q, z)
-  go (inr z) false q = inl (record-bytes~ R .others n (eqb-false (n % 40) 15 q))
+  go (inr z) true q = inr (eqb-true (n % spotWidth) 15 q, z)
+  go (inr z) false q = inl (record-bytes~ R .others n (eqb-false (n % spotWidth) 15 q))
 
 -- ---- lists and the buffer
 
-whole-record : (r : Record) → length (recordBytes r) % 40 ≡ 0
+whole-record : (r : Record) → length (recordBytes r) % spotWidth ≡ 0
 whole-record r = rw (length-recordBytes r)
 
 pub list-bytes~ : {rs ts : List Record} → RecordsNear rs ts → BytesNear (bytesOf rs) (bytesOf ts)
@@ -135,42 +135,42 @@ take~ (suc n) (more e h) = more e (take~ n h)
 pub laid~ : {rs ts : List Record} → RecordsNear rs ts → (out : List ℕ) → BytesNear (laid rs out) (laid ts out)
 unfolding laid
 laid~ {rs = rs} h out =
-    let B = list-bytes~ (take~ (length out / 40) h) in
-    rw (← (B .long)) (append-near (omega (arith, length-bytesOf (take (length out / 40) rs))) B (equal-near _))
+    let B = list-bytes~ (take~ (length out / spotWidth) h) in
+    rw (← (B .long)) (append-near (omega (arith, length-bytesOf (take (length out / spotWidth) rs))) B (equal-near _))
 
 -- a byte of one record more: its own, or one of the others'
-byte-more : {a b : Record} (rs ts : List Record) → RecordNear a b → (n : ℕ) (d : Record) → ByteNear (bytesOf rs) (bytesOf ts) rs ts (n - 40) d →
+byte-more : {a b : Record} (rs ts : List Record) → RecordNear a b → (n : ℕ) (d : Record) → ByteNear (bytesOf rs) (bytesOf ts) rs ts (n - spotWidth) d →
     ByteNear (bytesOf (a ∷ rs)) (bytesOf (b ∷ ts)) (a ∷ rs) (b ∷ ts) n d
 unfolding bytesOf
-byte-more {a = a} {b = b} rs ts e n d later = go (leb 40 n) refl where
-  first : length (recordBytes a) ≡ 40
+byte-more {a = a} {b = b} rs ts e n d later = go (leb spotWidth n) refl where
+  first : length (recordBytes a) ≡ spotWidth
   first = length-recordBytes a
 
-  second : length (recordBytes b) ≡ 40
+  second : length (recordBytes b) ≡ spotWidth
   second = length-recordBytes b
 
-  go : (t : Bool) → leb 40 n ≡ t → ByteNear (bytesOf (a ∷ rs)) (bytesOf (b ∷ ts)) (a ∷ rs) (b ∷ ts) n d
+  go : (t : Bool) → leb spotWidth n ≡ t → ByteNear (bytesOf (a ∷ rs)) (bytesOf (b ∷ ts)) (a ∷ rs) (b ∷ ts) n d
   go true q =
-      let past : 40 ≤ n = leb-true 40 n q in
-      let quotient : n / 40 ≡ suc ((n - 40) / 40) = omega arith in
-      let rest : n % 40 ≡ (n - 40) % 40 = omega arith in
+      let past : spotWidth ≤ n = leb-true spotWidth n q in
+      let quotient : n / spotWidth ≡ suc ((n - spotWidth) / spotWidth) = omega arith in
+      let rest : n % spotWidth ≡ (n - spotWidth) % spotWidth = omega arith in
       rw (getD-past (recordBytes a) (bytesOf rs) n (omega (arith, first)), getD-past (recordBytes b) (bytesOf ts) n (omega (arith, second)), first, second, quotient, rest) later
   go false q =
-      let before : n < 40 = leb-false 40 n q in
-      let quotient : n / 40 ≡ 0 = omega arith in
+      let before : n < spotWidth = leb-false spotWidth n q in
+      let quotient : n / spotWidth ≡ 0 = omega arith in
       rw (List·getD-append (recordBytes a) (bytesOf rs) 0 n (omega (arith, first)), List·getD-append (recordBytes b) (bytesOf ts) 0 n (omega (arith, second)), quotient) (record-byte e n)
 
 -- where two lists' bytes differ, the record's peak is a zero in both
 pub list-byte~ : {rs ts : List Record} → RecordsNear rs ts → (n : ℕ) (d : Record) → ByteNear (bytesOf rs) (bytesOf ts) rs ts n d
 list-byte~ none n d = inl refl
-list-byte~ (more {rs = rs} {ts = ts} e h) n d = byte-more rs ts e n d (list-byte~ h (n - 40) d)
+list-byte~ (more {rs = rs} {ts = ts} e h) n d = byte-more rs ts e n d (list-byte~ h (n - spotWidth) d)
 
 -- so too in a buffer
 pub laid-byte~ : {rs ts : List Record} → RecordsNear rs ts → (out : List ℕ) (n : ℕ) (d : Record) → ByteNear (laid rs out) (laid ts out) rs ts n d
 unfolding laid
 laid-byte~ {rs = rs} {ts = ts} h out n d = go (leb (length (bytesOf (take k rs))) n) refl where
   k : ℕ
-  k = length out / 40
+  k = length out / spotWidth
 
   alike : length (bytesOf (take k rs)) ≡ length (bytesOf (take k ts))
   alike = list-bytes~ (take~ k h) .long
@@ -183,9 +183,9 @@ laid-byte~ {rs = rs} {ts = ts} h out n d = go (leb (length (bytesOf (take k rs))
   go false q =
       let before : n < length (bytesOf (take k rs)) = leb-false _ n q in
       let before' : n < length (bytesOf (take k ts)) = omega (arith, alike) in
-      let inside : n / 40 < k = omega (arith, length-bytesOf (take k rs), length-take k rs) in
+      let inside : n / spotWidth < k = omega (arith, length-bytesOf (take k rs), length-take k rs) in
       rw (List·getD-append (bytesOf (take k rs)) _ 0 n before, List·getD-append (bytesOf (take k ts)) _ 0 n before')
-      (rw (getD-take k rs (n / 40) d inside, getD-take k ts (n / 40) d inside) at (list-byte~ (take~ k h) n d))
+      (rw (getD-take k rs (n / spotWidth) d inside, getD-take k ts (n / spotWidth) d inside) at (list-byte~ (take~ k h) n d))
 
 -- ---- what detection writes, under any allowed choice of zeros at every call
 
