@@ -1,86 +1,73 @@
--- Laws of checks in an order: what the one that is refused tells of the others. Assumes nothing.
-use Prim.Native.Nat.{ℕ, _<_}
+-- Laws of checks in an order: the answer is the first that holds, by its place. Assumes nothing.
+use Prim.Native.Nat.{ℕ, zero, suc, _<_}
 use native.Mathlib.Omega.{arith}
-use mathlib.Core.Bool.{Bool, true, false, _||_}
+use mathlib.Core.Bool.{Bool, true, false}
 use mathlib.Core.List.{List, [], _∷_}
-use mathlib.Core.Logic.{_⊎_, inl, inr}
-use mathlib.Core.Path.{_≡_, refl, ap}
-use lib.Dec.{ltb}
-use borrow.Author.Tests.{ltb-true}
-use Rattle.float.proofs.Bools.{both}
+use mathlib.Core.Path.{_≡_, refl}
 use Rattle.tables.specs.declared.Refusal.{Refusal}
 use Rattle.tables.specs.declared.Checked.{Checked}
 use Rattle.tables.specs.declared.Checked.the-variants.{Fine, Bad}
-use Rattle.tables.specs.Refusal.{number, unless, firstOf, Among, risesAbove}
+use Rattle.tables.specs.Refusal.{Check, unless, firstOf, saidAt, First}
 
 -- ---- one check
 
+-- where checks are fine, the first of them does not hold, and the others are fine
 pub unless-fine : (b : Bool) (r : Refusal) (next : Checked) → unless b r next ≡ Fine → (b ≡ false) × (next ≡ Fine)
 unfolding unless
 unless-fine true r next h = (cc, cc)
 unless-fine false r next h = (refl, h)
 
--- two tests for one refusal are one test
-pub unless-or : (a b : Bool) (r : Refusal) (next : Checked) → unless (a || b) r next ≡ unless a r (unless b r next)
-unfolding unless
-unless-or true b r next = refl
-unless-or false b r next = refl
+-- ---- an entry's checks
 
--- ---- checks in the order of a list
+-- a first refusal among the later checks is the first of all where the check before them does not hold
+later : (c : Check) (cs : List Check) (r : Refusal) → c .holds ≡ false → First cs r → First (c ∷ cs) r
+unfolding saidAt unless
+later c cs r e f = record {
+  place = suc (f .place);
+  holds = f .holds;
+  earlier = before;
+}
+  where
+    before : (k : ℕ) → k < suc (f .place) → saidAt (c ∷ cs) k ≡ Fine
+    before zero h = rw e
+    before (suc k) h = f .earlier k (omega arith)
 
--- each of a rising list is above what the list is above
-above : (rs : List Refusal) (n : ℕ) (q : Refusal) → risesAbove n rs ≡ true → Among q rs → n < number q
-unfolding Among risesAbove
-above [] n q up a = absurd a
-above (r ∷ rs) n q up (inl same) = omega (arith, ap number same, ltb-true n (number r) (both (ltb n (number r)) (risesAbove (number r) rs) up .0))
-above (r ∷ rs) n q up (inr later) =
-    let p = both (ltb n (number r)) (risesAbove (number r) rs) up in
-    omega (arith, ltb-true n (number r) (p .0), above rs (number r) q (p .1) later)
+-- a refusal that is answered is the first that holds
+pub first-refused : (cs : List Check) (r : Refusal) → firstOf cs ≡ Bad r → First cs r
+unfolding firstOf saidAt unless
+first-refused [] r e = let never : _≡_ {A = ℕ} 0 1 = cc in let z : ⊥ = omega (arith, never) in absurd z
+first-refused (c ∷ cs) r e = go (c .holds) refl e (first-refused cs r)
+  where
+    go : (b : Bool) → c .holds ≡ b → unless b (c .refusal) (firstOf cs) ≡ Bad r → (firstOf cs ≡ Bad r → First cs r) → First (c ∷ cs) r
+    go true t h further = record { place = zero; holds = rw t h; earlier = λ k less. let z : ⊥ = omega arith in absurd z }
+    go false t h further = later c cs r t (further h)
 
-module _ (test : Refusal → Bool) where
-  -- the refusal found is one whose test holds
-  pub first-holds : (rs : List Refusal) (r : Refusal) → firstOf test rs ≡ Bad r → test r ≡ true
-  unfolding firstOf unless
-  first-holds [] r e = cc
-  first-holds (q ∷ rs) r e = go (test q) refl e (first-holds rs r)
-    where
-      go : (b : Bool) → test q ≡ b → unless b q (firstOf test rs) ≡ Bad r → (firstOf test rs ≡ Bad r → test r ≡ true) → test r ≡ true
-      go true t h further = let same : q ≡ r = cc in rw (← same) t
-      go false t h further = further h
+-- a check that holds, with none before it that does, is answered
+placed : (cs : List Check) (r : Refusal) (n : ℕ) → saidAt cs n ≡ Bad r → ((k : ℕ) → k < n → saidAt cs k ≡ Fine) → firstOf cs ≡ Bad r
+unfolding firstOf saidAt unless
+placed [] r n h before = h
+placed (c ∷ cs) r zero h before = go (c .holds) h
+  where
+    go : (b : Bool) → unless b (c .refusal) Fine ≡ Bad r → unless b (c .refusal) (firstOf cs) ≡ Bad r
+    go true e = e
+    go false e = cc
+placed (c ∷ cs) r (suc n) h before =
+    let p = unless-fine (c .holds) (c .refusal) Fine (before zero (omega arith)) in
+    rw (p .0) (placed cs r n h (λ k less. before (suc k) (omega arith)))
 
-  -- and no test of a smaller number holds
-  pub first-before : (rs : List Refusal) (r : Refusal) (n : ℕ) → risesAbove n rs ≡ true → firstOf test rs ≡ Bad r → (q : Refusal) → Among q rs → number q < number r → test q ≡ false
-  unfolding firstOf Among risesAbove unless
-  first-before [] r n up e q a less = absurd a
-  first-before (p ∷ rs) r n up e q a less = go (test p) refl e a (λ h. first-before rs r (number p) (both (ltb n (number p)) (risesAbove (number p) rs) up .1) h q)
-    where
-      go : (b : Bool) → test p ≡ b → unless b p (firstOf test rs) ≡ Bad r → (q ≡ p) ⊎ Among q rs → (firstOf test rs ≡ Bad r → Among q rs → number q < number r → test q ≡ false) → test q ≡ false
-      go true t h (inl same) further = let found : p ≡ r = cc in let z : ⊥ = omega (arith, ap number same, ap number found) in absurd z
-      go true t h (inr later) further = let found : p ≡ r = cc in let z : ⊥ = omega (arith, above rs (number p) q (both (ltb n (number p)) (risesAbove (number p) rs) up .1) later, ap number found) in absurd z
-      go false t h (inl same) further = rw same t
-      go false t h (inr later) further = further h later less
+-- and the first that holds is answered
+pub refused-first : (cs : List Check) (r : Refusal) → First cs r → firstOf cs ≡ Bad r
+refused-first cs r f = placed cs r (f .place) (f .holds) (f .earlier)
 
-  -- where none is found, no test of the list holds
-  pub first-fine : (rs : List Refusal) → firstOf test rs ≡ Fine → (q : Refusal) → Among q rs → test q ≡ false
-  unfolding firstOf Among unless
-  first-fine [] e q a = absurd a
-  first-fine (p ∷ rs) e q a = go (test p) refl e a (λ h. first-fine rs h q)
-    where
-      go : (b : Bool) → test p ≡ b → unless b p (firstOf test rs) ≡ Fine → (q ≡ p) ⊎ Among q rs → (firstOf test rs ≡ Fine → Among q rs → test q ≡ false) → test q ≡ false
-      go true t h a further = cc
-      go false t h (inl same) further = rw same t
-      go false t h (inr later) further = further h later
+-- where the answer is fine, no check holds
+pub first-fine : (cs : List Check) → firstOf cs ≡ Fine → (k : ℕ) → saidAt cs k ≡ Fine
+unfolding firstOf saidAt unless
+first-fine [] e k = refl
+first-fine (c ∷ cs) e zero = let p = unless-fine (c .holds) (c .refusal) (firstOf cs) e in rw (p .0)
+first-fine (c ∷ cs) e (suc k) = let p = unless-fine (c .holds) (c .refusal) (firstOf cs) e in first-fine cs (p .1) k
 
-  -- and where no test of the list holds, none is found
-  pub none-fine : (rs : List Refusal) → ((q : Refusal) → Among q rs → test q ≡ false) → firstOf test rs ≡ Fine
-  unfolding firstOf Among unless
-  none-fine [] h = refl
-  none-fine (p ∷ rs) h = rw (h p (inl refl)) (none-fine rs (λ q a. h q (inr a)))
-
-  -- a test that holds only for refusals of the list is settled by the list
-  pub only-listed : (rs : List Refusal) (q : Refusal) → (test q ≡ true → Among q rs) → (Among q rs → test q ≡ false) → test q ≡ false
-  only-listed rs q listed fails = go (test q) refl listed
-    where
-      go : (b : Bool) → test q ≡ b → (b ≡ true → Among q rs) → test q ≡ false
-      go true t inside = fails (inside refl)
-      go false t inside = t
+-- and where no check holds, the answer is fine
+pub fine-first : (cs : List Check) → ((k : ℕ) → saidAt cs k ≡ Fine) → firstOf cs ≡ Fine
+unfolding firstOf saidAt unless
+fine-first [] h = refl
+fine-first (c ∷ cs) h = let p = unless-fine (c .holds) (c .refusal) Fine (h zero) in rw (p .0) (fine-first cs (λ k. h (suc k)))

@@ -1,8 +1,7 @@
 -- The refusals and their numbers, checks in an order, and what the reader of a set answers. Definitions only.
-use Prim.Native.Nat.{ℕ}
+use Prim.Native.Nat.{ℕ, zero, suc, _<_}
 use mathlib.Core.List.{List, [], _∷_}
-use mathlib.Core.Bool.{Bool, true, false, cond, _&&_}
-use mathlib.Core.Logic.{_⊎_}
+use mathlib.Core.Bool.{Bool, true, false, cond, not, _||_}
 use mathlib.Core.Path.{_≡_}
 use lib.Dec.{ltb}
 use Rattle.tables.specs.declared.Refusal.{Refusal}
@@ -10,7 +9,8 @@ use Rattle.tables.specs.declared.Refusal.the-variants.{Size, Level, Octa
 use Rattle.tables.specs.declared.Checked.{Checked}
 use Rattle.tables.specs.declared.Checked.the-variants.{Fine, Bad}
 use Rattle.tables.specs.declared.SetRead.{SetRead}
-use Rattle.tables.specs.Set.{setOf, goodRecord, blank}
+use Rattle.tables.specs.declared.Set.{Set}
+use Rattle.tables.specs.Set.{good, setOf, goodRecord, blank}
 
 -- the number of a refusal
 unfoldable pub number : Refusal → ℕ
@@ -22,35 +22,69 @@ number (Records i) = 5
 number Room = 6
 number NoSize = 7
 
--- the index that goes with it: that of a bad record, else 0
-unfoldable pub index : Refusal → ℕ
-index (Records i) = i
-index Size = 0
-index Level = 0
-index Octave = 0
-index BadSet = 0
-index Room = 0
-index NoSize = 0
+-- the value that goes with it: a bad record's index, else 0
+unfoldable pub value : Refusal → ℕ
+value (Records i) = i
+value Size = 0
+value Level = 0
+value Octave = 0
+value BadSet = 0
+value Room = 0
+value NoSize = 0
 
 -- refuse r where the test holds, and look further otherwise
 unfoldable pub unless : Bool → Refusal → Checked → Checked
 unless true r next = Bad r
 unless false r next = next
 
--- the first refusal of the list whose test holds; fine where none does
-unfoldable pub firstOf : (Refusal → Bool) → List Refusal → Checked
-firstOf test [] = Fine
-firstOf test (r ∷ rs) = unless (test r) r (firstOf test rs)
+-- ---- checks in an order
 
--- the refusal q is one of the list
-unfoldable pub Among : Refusal → List Refusal → Type 0
-Among q [] = ⊥
-Among q (r ∷ rs) = (q ≡ r) ⊎ Among q rs
+-- one check of an entry: what it refuses with, and whether it does
+pub record Check : Type 0 where
+  pub refusal : Refusal
+  pub holds : Bool
 
--- the list's numbers are above n, and rise
-unfoldable pub risesAbove : ℕ → List Refusal → Bool
-risesAbove n [] = true
-risesAbove n (r ∷ rs) = ltb n (number r) && risesAbove (number r) rs
+infix 20 _when_
+-- the check that refuses with r where the test holds
+abbrev pub _when_ : Refusal → Bool → Check
+r when b = record { refusal = r; holds = b }
+
+-- of an entry's checks, in its order, the first that holds is answered; fine where none does
+unfoldable pub firstOf : List Check → Checked
+firstOf [] = Fine
+firstOf (c ∷ cs) = unless (c .holds) (c .refusal) (firstOf cs)
+
+-- what the check at the place k says by itself, places counted from 0: past the end, fine
+unfoldable pub saidAt : List Check → ℕ → Checked
+saidAt [] k = Fine
+saidAt (c ∷ cs) zero = unless (c .holds) (c .refusal) Fine
+saidAt (c ∷ cs) (suc k) = saidAt cs k
+
+-- r is refused by the check at some place, and no check at an earlier place holds
+pub record First (cs : List Check) (r : Refusal) : Type 0 where
+  pub place : ℕ
+  pub holds : saidAt cs place ≡ Bad r
+  pub earlier : (k : ℕ) → k < place → saidAt cs k ≡ Fine
+
+-- ---- the checks that entries share
+
+-- the longest side of a map
+abbrev pub mostSide : ℕ
+mostSide = 4096
+
+-- 1: rows or cols above the longest side
+abbrev pub sidesCheck : ℕ → ℕ → Check
+sidesCheck rows cols = Size when (ltb mostSide rows || ltb mostSide cols)
+
+-- 3: the octave is above 5
+abbrev pub octaveCheck : ℕ → Check
+octaveCheck octave = Octave when ltb 5 octave
+
+-- 4: the set is not good
+abbrev pub setCheck : Set → Check
+setCheck s = BadSet when not (good s)
+
+-- ---- the reader of a set
 
 -- the answer to a bad record: refusal 4, and a set of zeros beside it
 unfoldable pub refusedSet : SetRead

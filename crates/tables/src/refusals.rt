@@ -1,12 +1,11 @@
-// The number and the index of a refusal, as words that a caller of another language or a printed line can carry.
+// The number and the value of a refusal, as words that a caller of another language or a printed line can carry.
 ghost use mathlib.Core.Path.{_≡_};
-ghost use Prim.Native.Nat.{_<_};
-ghost use Rattle.tables.specs.Refusal.{number, index};
+ghost use Rattle.tables.specs.Refusal.{number, value};
 use crate::Refusal;
 
-// The number of a refusal: one digit.
+// The number of a refusal.
 pub fn number_of(why: Refusal) -> u32
-    ensures { λ r. ⌜ (r ≡ number why) × (r < 10) ⌝ }
+    ensures { λ r. ⌜ r ≡ number why ⌝ }
 {
     match why {
         Refusal::Size => 1,
@@ -19,9 +18,9 @@ pub fn number_of(why: Refusal) -> u32
     }
 }
 
-// The index that goes with it.
-pub fn index_of(why: Refusal) -> u64
-    ensures { λ r. ⌜ r ≡ index why ⌝ }
+// The value that goes with it: a bad record's index, else 0.
+pub fn value_of(why: Refusal) -> u64
+    ensures { λ r. ⌜ r ≡ value why ⌝ }
 {
     match why {
         Refusal::Records(i) => i as u64,

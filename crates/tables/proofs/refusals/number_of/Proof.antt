@@ -1,6 +1,4 @@
 -- `number_of` meets its contract.
-use native.Mathlib.Omega.{arith}
-use mathlib.Core.Path.{refl}
 use Rattle.tables.specs.Refusal.{number}
 use borrow.Author.Needs.{needs}
 use Rattle.tables.proofs.refusals.number_of.Statement.{statement}
@@ -29,31 +27,31 @@ enum-told-7 c = search needs
 
 returns : tie.Need-returns
 unfolding number
-returns c = rw (c .enum-told .given .1) (refl, omega arith)
+returns c = rw (c .enum-told .given .1)
 
 returns-2 : tie.Need-returns-2
 unfolding number
-returns-2 c = rw (c .enum-told2 .given .1) (refl, omega arith)
+returns-2 c = rw (c .enum-told2 .given .1)
 
 returns-3 : tie.Need-returns-3
 unfolding number
-returns-3 c = rw (c .enum-told3 .given .1) (refl, omega arith)
+returns-3 c = rw (c .enum-told3 .given .1)
 
 returns-4 : tie.Need-returns-4
 unfolding number
-returns-4 c = rw (c .enum-told4 .given .1) (refl, omega arith)
+returns-4 c = rw (c .enum-told4 .given .1)
 
 returns-5 : tie.Need-returns-5
 unfolding number
-returns-5 c = rw (c .enum-told5 .given .1) (refl, omega arith)
+returns-5 c = rw (c .enum-told5 .given .1)
 
 returns-6 : tie.Need-returns-6
 unfolding number
-returns-6 c = rw (c .enum-told6 .given .1) (refl, omega arith)
+returns-6 c = rw (c .enum-told6 .given .1)
 
 returns-7 : tie.Need-returns-7
 unfolding number
-returns-7 c = rw (c .enum-told7 .given .1) (refl, omega arith)
+returns-7 c = rw (c .enum-told7 .given .1)
 
 pub number-of-spec : {M : Type 1} → statement M
 number-of-spec =

@@ -1,8 +1,8 @@
--- `index_of` meets its contract.
-use Rattle.tables.specs.Refusal.{index}
+-- `value_of` meets its contract.
+use Rattle.tables.specs.Refusal.{value}
 use borrow.Author.Needs.{needs}
-use Rattle.tables.proofs.refusals.index_of.Statement.{statement}
-use Rattle.tables.proofs.refusals.index_of.Tie as tie
+use Rattle.tables.proofs.refusals.value_of.Statement.{statement}
+use Rattle.tables.proofs.refusals.value_of.Tie as tie
 
 enum-known-why : tie.Need-enum-known-why
 enum-known-why c = search needs
@@ -26,35 +26,35 @@ enum-told-6 : tie.Need-enum-told-6
 enum-told-6 c = search needs
 
 returns : tie.Need-returns
-unfolding index
+unfolding value
 returns c = rw (c .before .why .given .1)
 
 returns-2 : tie.Need-returns-2
-unfolding index
+unfolding value
 returns-2 c = rw (c .enum-told .given .1)
 
 returns-3 : tie.Need-returns-3
-unfolding index
+unfolding value
 returns-3 c = rw (c .enum-told2 .given .1)
 
 returns-4 : tie.Need-returns-4
-unfolding index
+unfolding value
 returns-4 c = rw (c .enum-told3 .given .1)
 
 returns-5 : tie.Need-returns-5
-unfolding index
+unfolding value
 returns-5 c = rw (c .enum-told4 .given .1)
 
 returns-6 : tie.Need-returns-6
-unfolding index
+unfolding value
 returns-6 c = rw (c .enum-told5 .given .1)
 
 returns-7 : tie.Need-returns-7
-unfolding index
+unfolding value
 returns-7 c = rw (c .enum-told6 .given .1)
 
-pub index-of-spec : {M : Type 1} → statement M
-index-of-spec =
+pub value-of-spec : {M : Type 1} → statement M
+value-of-spec =
     tie.close
     (tie.spec
     enum-known-why
