@@ -12,10 +12,9 @@ use lib.Dec.{ltb, eqb}
 use lib.Ieee.{Float, nan}
 use borrow.Author.Count.{below-more}
 use borrow.Author.Tests.{ltb-false, lt-ltb, le-ltb, eqb-true, not-false}
-use Rattle.tables.specs.declared.Refusal.{Refusal}
-use Rattle.tables.specs.declared.Checked.{Checked}
 use Rattle.tables.specs.declared.Checked.the-variants.{Fine}
-use Rattle.tables.proofs.RefusalLaws.{unless-fine}
+use Rattle.tables.specs.Refusal.{firstOf}
+use Rattle.tables.proofs.RefusalLaws.{unless-fine, sides-most}
 use Rattle.pyramid.specs.Pyramid.{halfOf, columnOf, columnsOf, halvedOf, needed, Halves, Stored, downsampleChecks, outcome, downsampled}
 use Rattle.pyramid.specs.declared.Halved.the-variants.{Sides}
 
@@ -145,18 +144,18 @@ pub record Passed (n room rows cols : ℕ) : Type 0 where
   pub long : n ≡ rows * cols
   pub roomy : needed rows cols ≤ room
 
-pub checks-passed : (n room rows cols : ℕ) → downsampleChecks n room rows cols ≡ Fine → Passed n room rows cols
-unfolding downsampleChecks
+pub checks-passed : (n room rows cols : ℕ) → firstOf (downsampleChecks n room rows cols) ≡ Fine → Passed n room rows cols
+unfolding downsampleChecks firstOf
 checks-passed n room rows cols h =
-    let a = unless-fine _ _ _ h in
-    let b = unless-fine _ _ _ (a .1) in
-    let c = unless-fine _ _ _ (b .1) in
-    let d = unless-fine _ _ _ (c .1) in
+    let sides = unless-fine _ _ _ h in
+    let level = unless-fine _ _ _ (sides .1) in
+    let buffer = unless-fine _ _ _ (level .1) in
+    let most = sides-most rows cols (sides .0) in
     record {
-      rows-most = ltb-false _ _ (a .0);
-      cols-most = ltb-false _ _ (b .0);
-      long = eqb-true _ _ (not-false (eqb n (rows * cols)) (c .0));
-      roomy = ltb-false _ _ (d .0);
+      rows-most = most .0;
+      cols-most = most .1;
+      long = eqb-true _ _ (not-false (eqb n (rows * cols)) (level .0));
+      roomy = ltb-false _ _ (buffer .0);
     }
 
 pub area : {a b : ℕ} → a ≤ 4096 → b ≤ 4096 → a * b ≤ 16777216

@@ -2,8 +2,7 @@
 -- refusals. Assumes nothing.
 use Prim.Native.Nat.{ℕ, _+_, _*_, _/_, _-_, _≤_, _<_}
 use native.Mathlib.Omega.{arith}
-use mathlib.Core.Bool.{Bool, true, false, cond, false≢true}
-use mathlib.Core.Logic.{inl, inr}
+use mathlib.Core.Bool.{Bool, true, false, cond}
 use mathlib.Core.List.{List}
 use mathlib.Core.Path.{_≡_, refl, sym, ap, _∙_}
 use lib.ListN.{length, getD, drop, length-append, length-drop, List·getD-append}
@@ -12,12 +11,11 @@ use lib.Dec.{ltb, leb}
 use lib.Ieee.{Float, nan}
 use borrow.Author.Tests.{ltb-false, leb-false, le-ltb, lt-leb}
 use Rattle.tables.specs.declared.Refusal.{Refusal}
-use Rattle.tables.specs.declared.Refusal.the-variants.{Size, Level, Octave, BadSet, Records, Room, NoSize}
 use Rattle.tables.specs.declared.Checked.{Checked}
 use Rattle.tables.specs.declared.Checked.the-variants.{Fine, Bad}
-use Rattle.tables.specs.Refusal.{number, firstOf, Among, risesAbove}
-use Rattle.tables.proofs.RefusalLaws.{unless-or, first-holds, first-before, first-fine, none-fine, only-listed}
-use Rattle.pyramid.specs.Pyramid.{octavesOf, octaveCountOf, halfOf, halvedOf, needed, downsampleChecks, applies, refusals, Outcome, outcome, downsampled, downsampleOf}
+use Rattle.tables.specs.Refusal.{Check, firstOf, saidAt, First}
+use Rattle.tables.proofs.RefusalLaws as order
+use Rattle.pyramid.specs.Pyramid.{octavesOf, octaveCountOf, halfOf, halvedOf, needed, downsampleChecks, Outcome, outcome, downsampled, downsampleOf}
 use Rattle.pyramid.specs.declared.Halved.{Halved}
 use Rattle.pyramid.specs.declared.Halved.the-variants.{Sides, Refused}
 use Rattle.pyramid.proofs.HalvedLaws.{halved-pixel, pixel-before, length-halved, checks-passed}
@@ -141,8 +139,8 @@ module _ (rows cols : ℕ) (l out : List Float) where
 -- ---- a call
 
 module _ (rows cols : ℕ) (l out : List Float) where
-  abbrev wrong : Refusal → Bool
-  wrong r = applies r rows cols l out
+  abbrev checks : List Check
+  checks = downsampleChecks (length l) (length out) rows cols
 
   abbrev after : Outcome
   after = downsampleOf rows cols l out
@@ -173,47 +171,27 @@ module _ (rows cols : ℕ) (l out : List Float) where
   unfolding downsampleOf
   length-kept = buffer-length rows cols l out _ (λ e. checks-passed _ _ _ _ e .roomy)
 
-  checks-first : firstOf wrong refusals ≡ downsampleChecks (length l) (length out) rows cols
-  unfolding downsampleChecks firstOf applies refusals
-  checks-first = simp unless-or
-
-  rising : risesAbove 0 refusals ≡ true
-  unfolding risesAbove refusals number
-  rising = refl
-
-  listed : (q : Refusal) → wrong q ≡ true → Among q refusals
-  unfolding applies Among refusals
-  listed Size e = inl refl
-  listed Level e = inr (inl refl)
-  listed Octave e = absurd (false≢true e)
-  listed BadSet e = absurd (false≢true e)
-  listed (Records i) e = absurd (false≢true e)
-  listed Room e = inr (inr (inl refl))
-  listed NoSize e = absurd (false≢true e)
-
-  refused : (r : Refusal) → after .answer ≡ Refused r → firstOf wrong refusals ≡ Bad r
+  -- a refusal that is answered is the first that holds, in the order of the checks: 1, 2, 6
+  pub refused-first : (r : Refusal) → after .answer ≡ Refused r → First checks r
   unfolding downsampleOf
-  refused r e = checks-first ∙ answer-refused rows cols l out _ r e
+  refused-first r e = order.first-refused checks r (answer-refused rows cols l out _ r e)
 
-  -- a refusal that is answered applies
-  pub refused-applies : (r : Refusal) → after .answer ≡ Refused r → wrong r ≡ true
-  refused-applies r e = first-holds wrong refusals r (refused r e)
-
-  -- and none with a smaller number does: the order is 1, 2, 6
-  pub refused-first : (r : Refusal) → after .answer ≡ Refused r → (q : Refusal) → number q < number r → wrong q ≡ false
-  refused-first r e q less = only-listed wrong refusals q (listed q) (λ a. first-before wrong refusals r 0 rising (refused r e) q a less)
+  -- and the first that holds is answered
+  pub first-refused : (r : Refusal) → First checks r → after .answer ≡ Refused r
+  unfolding downsampleOf downsampled
+  first-refused r f = rw (order.refused-first checks r f)
 
   -- a refusal writes nothing
   pub refused-keeps : (r : Refusal) → after .answer ≡ Refused r → after .buffer ≡ out
   unfolding downsampleOf
   refused-keeps r e = buffer-kept rows cols l out _ r e
 
-  -- a call that answers sides has none that applies
-  pub halved-none : (h w : ℕ) → after .answer ≡ Sides h w → (q : Refusal) → wrong q ≡ false
+  -- a call that answers sides has no check that holds
+  pub halved-none : (h w : ℕ) → after .answer ≡ Sides h w → (k : ℕ) → saidAt checks k ≡ Fine
   unfolding downsampleOf
-  halved-none h w e q = only-listed wrong refusals q (listed q) (first-fine wrong refusals (checks-first ∙ answer-halved rows cols l out _ h w e .0) q)
+  halved-none h w e = order.first-fine checks (answer-halved rows cols l out _ h w e .0)
 
-  -- and a call to which none applies answers the new sides
-  pub none-halved : ((q : Refusal) → wrong q ≡ false) → after .answer ≡ Sides (halfOf rows cols) (halfOf cols rows)
+  -- and a call with no check that holds answers the new sides
+  pub none-halved : ((k : ℕ) → saidAt checks k ≡ Fine) → after .answer ≡ Sides (halfOf rows cols) (halfOf cols rows)
   unfolding downsampleOf downsampled
-  none-halved h = rw (sym checks-first ∙ none-fine wrong refusals (λ q a. h q))
+  none-halved h = rw (order.fine-first checks h)

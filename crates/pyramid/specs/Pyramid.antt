@@ -1,15 +1,14 @@
 -- How many octaves a map has, a level halved, and what halving answers, refusals too. Definitions only.
 use Prim.Native.Nat.{ℕ, zero, suc, _+_, _*_, _/_, _≤_, min}
-use mathlib.Core.Bool.{Bool, true, false, cond, not, _||_}
+use mathlib.Core.Bool.{cond, not, _||_}
 use mathlib.Core.List.{List, [], _∷_, _++_}
 use mathlib.Core.Path.{_≡_}
 use lib.ListN.{length, getD, drop}
 use lib.Seq.{sets}
 use lib.Dec.{ltb, leb, eqb}
 use lib.Ieee.{Float, nan}
-use Rattle.tables.specs.Refusal.{unless}
-use Rattle.tables.specs.declared.Refusal.{Refusal}
-use Rattle.tables.specs.declared.Refusal.the-variants.{Size, Level, Octave, BadSet, Records, Room, NoSize}
+use Rattle.tables.specs.Refusal.{Check, _when_, firstOf, sidesCheck}
+use Rattle.tables.specs.declared.Refusal.the-variants.{Level, Room}
 use Rattle.tables.specs.declared.Checked.{Checked}
 use Rattle.tables.specs.declared.Checked.the-variants.{Fine, Bad}
 use Rattle.pyramid.specs.declared.Halved.{Halved}
@@ -65,27 +64,9 @@ pub record Stored (out out' : List Float) (at : ℕ) (fs : List Float) : Type 0 
 
 -- ---- refusals
 
--- the checks in their order, for a level of n floats and a buffer of room floats: 1, 2, 6
-unfoldable pub downsampleChecks : ℕ → ℕ → ℕ → ℕ → Checked
-downsampleChecks n room rows cols =
-    unless (ltb 4096 rows) Size
-    (unless (ltb 4096 cols) Size
-    (unless (not (eqb n (rows * cols))) Level
-    (unless (ltb room (needed rows cols)) Room Fine)))
-
--- 1: rows or cols above 4,096; 2: the level is not rows*cols long; 6: the output is shorter than needed; no other applies
-unfoldable pub applies : Refusal → ℕ → ℕ → List Float → List Float → Bool
-applies Size rows cols l out = ltb 4096 rows || ltb 4096 cols
-applies Level rows cols l out = not (eqb (length l) (rows * cols))
-applies Octave rows cols l out = false
-applies BadSet rows cols l out = false
-applies (Records i) rows cols l out = false
-applies Room rows cols l out = ltb (length out) (needed rows cols)
-applies NoSize rows cols l out = false
-
--- those that can apply, in the order of their numbers
-unfoldable pub refusals : List Refusal
-refusals = Size ∷ Level ∷ Room ∷ []
+-- the checks in their order, for a level of n floats and a buffer of room floats. 1: a side is too long; 2: the level is not rows*cols long; 6: the buffer is shorter than needed
+unfoldable pub downsampleChecks : ℕ → ℕ → ℕ → ℕ → List Check
+downsampleChecks n room rows cols = sidesCheck rows cols ∷ (Level when not (eqb n (rows * cols))) ∷ (Room when ltb room (needed rows cols)) ∷ []
 
 -- ---- the whole
 
@@ -105,4 +86,4 @@ downsampled Fine rows cols l out = let h = halvedOf rows cols l in outcome (Side
 
 -- the whole of downsample
 unfoldable pub downsampleOf : ℕ → ℕ → List Float → List Float → Outcome
-downsampleOf rows cols l out = downsampled (downsampleChecks (length l) (length out) rows cols) rows cols l out
+downsampleOf rows cols l out = downsampled (firstOf (downsampleChecks (length l) (length out) rows cols)) rows cols l out

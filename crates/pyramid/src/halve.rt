@@ -2,6 +2,7 @@
 ghost use mathlib.Core.Path.{_≡_};
 ghost use Prim.Native.Nat.{_+_, _*_, _≤_};
 ghost use lib.ListN.{length};
+ghost use Rattle.tables.specs.Refusal.{firstOf};
 ghost use Rattle.pyramid.specs.Pyramid.{halfOf, columnOf, columnsOf, Halves, Stored, downsampleChecks};
 use tables::Checked;
 use tables::Refusal;
@@ -16,14 +17,11 @@ pub fn half(side: usize, other: usize) -> usize
     side / 2
 }
 
-// The first refusal that applies, in the order of their numbers.
+// Of the checks, in their order (1, 2, 6), the first that holds.
 pub fn checked(n: usize, room: usize, rows: usize, cols: usize) -> Checked
-    ensures { λ r. ⌜ r ≡ downsampleChecks n room rows cols ⌝ }
+    ensures { λ r. ⌜ r ≡ firstOf (downsampleChecks n room rows cols) ⌝ }
 {
-    if 4096 < rows {
-        return Checked::Bad(Refusal::Size);
-    }
-    if 4096 < cols {
+    if (4096 < rows) | (4096 < cols) {
         return Checked::Bad(Refusal::Size);
     }
     if n != rows * cols {

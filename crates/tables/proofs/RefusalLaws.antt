@@ -1,13 +1,16 @@
 -- Laws of checks in an order: the answer is the first that holds, by its place. Assumes nothing.
-use Prim.Native.Nat.{ℕ, zero, suc, _<_}
+use Prim.Native.Nat.{ℕ, zero, suc, _≤_, _<_}
 use native.Mathlib.Omega.{arith}
 use mathlib.Core.Bool.{Bool, true, false}
 use mathlib.Core.List.{List, [], _∷_}
 use mathlib.Core.Path.{_≡_, refl}
+use lib.Dec.{ltb}
+use borrow.Author.Tests.{ltb-false}
+use Rattle.float.proofs.Bools.{neither}
 use Rattle.tables.specs.declared.Refusal.{Refusal}
 use Rattle.tables.specs.declared.Checked.{Checked}
 use Rattle.tables.specs.declared.Checked.the-variants.{Fine, Bad}
-use Rattle.tables.specs.Refusal.{Check, unless, firstOf, saidAt, First}
+use Rattle.tables.specs.Refusal.{Check, unless, firstOf, saidAt, First, mostSide, sidesCheck}
 
 -- ---- one check
 
@@ -16,6 +19,10 @@ pub unless-fine : (b : Bool) (r : Refusal) (next : Checked) → unless b r next 
 unfolding unless
 unless-fine true r next h = (cc, cc)
 unless-fine false r next h = (refl, h)
+
+-- sides that are not refused are no longer than the longest
+pub sides-most : (rows cols : ℕ) → sidesCheck rows cols .holds ≡ false → (rows ≤ mostSide) × (cols ≤ mostSide)
+sides-most rows cols h = let p = neither (ltb mostSide rows) (ltb mostSide cols) h in (ltb-false mostSide rows (p .0), ltb-false mostSide cols (p .1))
 
 -- ---- an entry's checks
 
