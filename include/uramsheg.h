@@ -38,14 +38,15 @@ extern "C" {
 
 enum { URAMSHEG_SET_BYTES = 528, URAMSHEG_SPOT_BYTES = 40, URAMSHEG_SIZED_BYTES = 52 };
 
-/* What a call answers: 0, or why it was refused. Where several apply, the first in this order is given. */
+/* What a call answers: 0, or why it was refused. Of the call's checks, in its order, the first that holds is answered; each call gives its order below,
+ * and the numbers say nothing about it. */
 enum {
     URAMSHEG_DONE = 0,
     URAMSHEG_REFUSED_SIZE = 1,    /* rows or cols above 4096: cut the map into tiles */
     URAMSHEG_REFUSED_LEVEL = 2,   /* a level is not rows * cols long */
     URAMSHEG_REFUSED_OCTAVE = 3,  /* octave above 5 */
     URAMSHEG_REFUSED_SET = 4,     /* the set record is not 528 bytes long or not good */
-    URAMSHEG_REFUSED_RECORDS = 5, /* the list is no whole number of records, or holds a bad one: *value is its index */
+    URAMSHEG_REFUSED_RECORDS = 5, /* the list is no whole number of records (*value is how many are whole), or holds a bad one (*value is its index) */
     URAMSHEG_REFUSED_ROOM = 6,    /* the output is shorter than needed */
     URAMSHEG_REFUSED_NO_SIZE = 7  /* the spot has no size */
 };
@@ -53,7 +54,7 @@ enum {
 /* Lists the spots of four levels in `out`, by rising order key, at one key the minimum before the maximum.
  * Answers 0 and the number of spots in *value; `out` then begins with as many whole records as fit, and its later bytes are kept. A short `out` is no
  * refusal: *value is the full number all the same. Any thresholds are allowed, NaN too.
- * Refused, it answers the number, *value is 0, and `out` is untouched. */
+ * Refused (checked in the order 1, 2, 3, 4), it answers the number, *value is 0, and `out` is untouched. */
 uint32_t uramsheg_detect(const uint8_t *set, size_t set_length,
                          float peak_threshold, float sigma_threshold, float curvature_ratio, float window_low, float window_high,
                          size_t rows, size_t cols, size_t octave,
@@ -64,13 +65,14 @@ uint32_t uramsheg_detect(const uint8_t *set, size_t set_length,
 /* Sizes the records of a list that was found on a map of rows by cols: a sized record for each, in the list's order, in `out`.
  * A size comes from the four samples, the sigma and the polarity in the spot's own record, and from nothing else.
  * Answers 0 and the number of records in *value; bytes of `out` past the sized records are kept.
- * Refused (1, 4, 5, 6), it answers the number and leaves `out` untouched; *value is 0, but for 5: then it is the index of the first bad record, or the
- * number of whole records where the list's length is no multiple of 40. The records of uramsheg_detect for the same rows and cols are never refused. */
+ * Refused (checked in the order 1, 4, 5 for the list's length, 5 for a record, 6), it answers the number and leaves `out` untouched; *value is 0, but
+ * for 5: then it is the number of whole records where the list's length is no multiple of 40, else the index of the first bad record. The records of
+ * uramsheg_detect for the same rows and cols are never refused with 5. */
 uint32_t uramsheg_join(const uint8_t *set, size_t set_length, size_t rows, size_t cols,
                        const uint8_t *list, size_t list_length, uint8_t *out, size_t out_length, uint64_t *value);
 
 /* The corrected sigma of a spot with these centre samples, this sigma and this polarity, in *corrected.
- * Refused (4; 7 where the spot has no size), it leaves *corrected untouched. */
+ * Refused (checked in the order 4, 7), it leaves *corrected untouched. */
 uint32_t uramsheg_correct(const uint8_t *set, size_t set_length, float sample0, float sample1, float sample2, float sample3,
                           float sigma, bool is_max, float *corrected);
 
@@ -79,7 +81,7 @@ uint32_t uramsheg_octave_count(size_t rows, size_t cols);
 
 /* Every second pixel of every second column of a level: (r, c) of `out` is (2r, 2c) of `level`. The new sides, half the old rounded down, or 0 by 0
  * where a side is under 2, go to *half_rows and *half_cols; floats of `out` past the result are kept.
- * Refused (1, 2, 6), it leaves all three untouched. */
+ * Refused (checked in the order 1, 2, 6), it leaves all three untouched. */
 uint32_t uramsheg_downsample(size_t rows, size_t cols, const float *level, size_t level_length, float *out, size_t out_length,
                              uint64_t *half_rows, uint64_t *half_cols);
 

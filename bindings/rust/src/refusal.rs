@@ -2,7 +2,8 @@
 
 use std::fmt;
 
-/// Why a call was refused. Where several apply, the one with the smallest number is given.
+/// Why a call was refused. Of the call's checks, in its order, the first that holds is answered: detection checks 1, 2, 3, 4; the join 1, 4, 5 for the
+/// list's length, 5 for a record, 6; correction 4, 7; halving a level 1, 2, 6.
 #[derive(Clone, Copy, Debug, PartialEq, Eq)]
 pub enum Refusal {
     /// 1: rows or cols above 4,096.
@@ -22,14 +23,14 @@ pub enum Refusal {
 }
 
 impl Refusal {
-    /// The refusal with a number and an index, as the C functions answer them; None for a number that is none of theirs.
-    pub fn from_number(number: u32, index: usize) -> Option<Refusal> {
+    /// The refusal with a number and the value that goes with it, as the C functions answer them; None for a number that is none of theirs.
+    pub fn from_number(number: u32, value: usize) -> Option<Refusal> {
         Some(match number {
             1 => Refusal::Size,
             2 => Refusal::Level,
             3 => Refusal::Octave,
             4 => Refusal::Set,
-            5 => Refusal::Records { index },
+            5 => Refusal::Records { index: value },
             6 => Refusal::Room,
             7 => Refusal::NoSize,
             _ => return None,
