@@ -14,7 +14,7 @@ use Rattle.tables.specs.declared.Set.{Set}
 use Rattle.tables.specs.declared.Thresholds.{Thresholds}
 use Rattle.tables.specs.declared.Refusal.the-variants.{Size, BadSet, Records, Room}
 use Rattle.tables.specs.declared.Checked.the-variants.{Fine, Bad}
-use Rattle.tables.specs.Refusal.{unless}
+use Rattle.tables.specs.Refusal.{unless, firstOf}
 use Rattle.tables.specs.Set.{good}
 use Rattle.record.specs.declared.Record.{Record}
 use Rattle.record.specs.Layout.{recordAt, laid, written}
@@ -94,8 +94,8 @@ module _ (m : Maps) (out : List ℕ) (rows-most : m .frame .rows ≤ 4096) (cols
   read-readable i h = join-accepts m _ (record { place = i; there = read-back i h })
 
   -- of the join's checks only the set's and the room's are open
-  checks-open : (t : Set) (room : ℕ) → joinChecks t (m .frame .rows) (m .frame .cols) bytes room ≡ unless (not (good t)) BadSet (unless (ltb room (count * 52)) Room Fine)
-  unfolding joinChecks unless
+  checks-open : (t : Set) (room : ℕ) → firstOf (joinChecks t (m .frame .rows) (m .frame .cols) bytes room) ≡ unless (not (good t)) BadSet (unless (ltb room (count * 52)) Room Fine)
+  unfolding joinChecks firstOf unless
   checks-open t room =
       let whole : length bytes % 40 ≡ 0 = omega (arith, length-bytes) in
       let number : length bytes / 40 ≡ count = omega (arith, length-bytes) in
@@ -103,7 +103,7 @@ module _ (m : Maps) (out : List ℕ) (rows-most : m .frame .rows ≤ 4096) (cols
       rw (le-ltb _ _ rows-most, le-ltb _ _ cols-most, eq-eqb _ _ whole, number, none, le-ltb count count (omega arith))
 
   -- and with a good set and room for the sized records they pass
-  room-enough : (t : Set) (room : ℕ) → good t ≡ true → count * 52 ≤ room → joinChecks t (m .frame .rows) (m .frame .cols) bytes room ≡ Fine
+  room-enough : (t : Set) (room : ℕ) → good t ≡ true → count * 52 ≤ room → firstOf (joinChecks t (m .frame .rows) (m .frame .cols) bytes room) ≡ Fine
   unfolding unless
   room-enough t room is-good h = checks-open t room ∙ rw (is-good, le-ltb _ _ h)
 

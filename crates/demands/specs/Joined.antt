@@ -8,6 +8,7 @@ use Rattle.tables.specs.declared.Set.{Set}
 use Rattle.tables.specs.declared.Refusal.the-variants.{Records}
 use Rattle.tables.specs.declared.Checked.the-variants.{Fine, Bad}
 use Rattle.tables.specs.Set.{good}
+use Rattle.tables.specs.Refusal.{firstOf}
 use Rattle.record.specs.declared.Record.{Record}
 use Rattle.record.specs.Layout.{recordAt}
 use Rattle.record.specs.Readable.{readable}
@@ -24,8 +25,8 @@ pub record Joins (rows cols : ℕ) (found : List Record) (count : ℕ) (b : List
   pub as-found : (i : ℕ) → i < count → StandsAt found i (recordAt b i)
   pub each-readable : (i : ℕ) → i < count → readable rows cols (recordAt b i) ≡ true
   -- whatever the set and the room, refusal 5 does not arise
-  pub not-records : (t : Set) (room i : ℕ) → joinChecks t rows cols b room ≡ Bad (Records i) → ⊥
+  pub not-records : (t : Set) (room i : ℕ) → firstOf (joinChecks t rows cols b room) ≡ Bad (Records i) → ⊥
   -- with a good set and room for the sized records none does
-  pub fine : (t : Set) (room : ℕ) → good t ≡ true → count * 52 ≤ room → joinChecks t rows cols b room ≡ Fine
+  pub fine : (t : Set) (room : ℕ) → good t ≡ true → count * 52 ≤ room → firstOf (joinChecks t rows cols b room) ≡ Fine
   -- and the join answers their count
   pub answer : (t : Set) (out : List ℕ) → good t ≡ true → count * 52 ≤ length out → joinOf t rows cols b out .answer ≡ Count count

@@ -14,7 +14,8 @@ use Rattle.tables.specs.declared.Checked.the-variants.{Fine}
 use Rattle.record.specs.Layout.{recordAt}
 use Rattle.record.specs.Readable.{readable}
 use Rattle.join.specs.Join.{firstBad, badOf, joinChecks}
-use Rattle.tables.proofs.RefusalLaws.{unless-fine}
+use Rattle.tables.specs.Refusal.{firstOf}
+use Rattle.tables.proofs.RefusalLaws.{unless-fine, sides-most}
 
 -- ---- the first bad record
 
@@ -83,22 +84,22 @@ pub record Passed (s : Set) (rows cols : ℕ) (b : List ℕ) (room : ℕ) : Type
 whole-records : (n : ℕ) → n % 40 ≡ 0 → n ≡ n / 40 * 40
 whole-records n h = omega arith
 
-pub checks-passed : (s : Set) (rows cols : ℕ) (b : List ℕ) (room : ℕ) → joinChecks s rows cols b room ≡ Fine → Passed s rows cols b room
-unfolding joinChecks
+pub checks-passed : (s : Set) (rows cols : ℕ) (b : List ℕ) (room : ℕ) → firstOf (joinChecks s rows cols b room) ≡ Fine → Passed s rows cols b room
+unfolding joinChecks firstOf
 checks-passed s rows cols b room h =
-    let a = unless-fine _ _ _ h in
-    let c = unless-fine _ _ _ (a .1) in
-    let d = unless-fine _ _ _ (c .1) in
-    let e = unless-fine _ _ _ (d .1) in
-    let f = unless-fine _ _ _ (e .1) in
-    let g = unless-fine _ _ _ (f .1) in
+    let sides = unless-fine _ _ _ h in
+    let set = unless-fine _ _ _ (sides .1) in
+    let whole = unless-fine _ _ _ (set .1) in
+    let none-bad = unless-fine _ _ _ (whole .1) in
+    let buffer = unless-fine _ _ _ (none-bad .1) in
+    let most = sides-most rows cols (sides .0) in
     record {
-      rows-most = ltb-false _ _ (a .0);
-      cols-most = ltb-false _ _ (c .0);
-      set-good = not-false (good s) (d .0);
-      long = whole-records (length b) (eqb-true _ _ (not-false (eqb (length b % 40) 0) (e .0)));
-      fair = λ i less. fair-before rows cols b (length b / 40) 0 i (omega arith) (omega (arith, ltb-false (badOf rows cols b) (length b / 40) (f .0)));
-      room-enough = ltb-false _ _ (g .0);
+      rows-most = most .0;
+      cols-most = most .1;
+      set-good = not-false (good s) (set .0);
+      long = whole-records (length b) (eqb-true _ _ (not-false (eqb (length b % 40) 0) (whole .0)));
+      fair = λ i less. fair-before rows cols b (length b / 40) 0 i (omega arith) (omega (arith, ltb-false (badOf rows cols b) (length b / 40) (none-bad .0)));
+      room-enough = ltb-false _ _ (buffer .0);
     }
 
 -- ---- room, by the records that it holds

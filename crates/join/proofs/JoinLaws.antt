@@ -13,7 +13,7 @@ use lib.Ieee.{Float}
 use borrow.Author.Tests.{ltb-true}
 use Rattle.float.specs.Num.{f0}
 use Rattle.tables.specs.Set.{good, allUnder}
-use Rattle.tables.specs.Refusal.{number}
+use Rattle.tables.specs.Refusal.{number, firstOf}
 use Rattle.tables.specs.declared.Set.{Set}
 use Rattle.tables.specs.declared.Refusal.the-variants as refusal
 use Rattle.tables.specs.declared.Checked.{Checked}
@@ -29,7 +29,7 @@ use Rattle.size.specs.Correct.{correctedOf, answerOf, correctBy, correctOf}
 use Rattle.size.specs.declared.Corrected.the-variants.{NoSize}
 use Rattle.size.specs.declared.Correction.the-variants.{Size, Refused}
 use Rattle.size.proofs.CorrectLaws.{size-is-corrected, refused-with-four-or-seven}
-use Rattle.join.specs.Sized.{sigmaOf, acceptedOf, samplesIn, sizeOf, homeOf, halfBytes, tailBytes, sizedBytes}
+use Rattle.join.specs.Sized.{givenSigma, acceptedOf, samplesIn, sizeOf, homeOf, halfBytes, tailBytes, sizedBytes}
 use Rattle.join.specs.Join.{recordsFrom, sizedAll, joinChecks, laidSized, joined, joinOf}
 use Rattle.join.specs.declared.Joined.the-variants.{Count}
 use Rattle.join.proofs.CheckLaws.{Passed, checks-passed}
@@ -46,7 +46,7 @@ module _ (s : Set) (r : Record) where
   -- where correction answers a size, it stands after the record, then the home pixel, then accepted 1
   pub sized-with-size : (cols : ℕ) (sigma : Float) → correctOf s (samplesIn r) (r .sigma) (eqb (r .polarity) 1) ≡ Size sigma
       → sizedBytes s cols r ≡ recordBytes r ++ (floatBytes sigma ++ (halfBytes (r .key / cols) ++ (halfBytes (r .key % cols) ++ (1 ∷ 0 ∷ 0 ∷ 0 ∷ []))))
-  unfolding sizedBytes tailBytes sizeOf homeOf sigmaOf acceptedOf
+  unfolding sizedBytes tailBytes sizeOf homeOf givenSigma acceptedOf
   sized-with-size cols sigma e = rw (size-is-corrected s (samplesIn r) (r .sigma) (eqb (r .polarity) 1) sigma e .1)
 
   no-size : correctOf s (samplesIn r) (r .sigma) (eqb (r .polarity) 1) ≡ Refused refusal.NoSize → correctedOf s (samplesIn r) (r .sigma) (eqb (r .polarity) 1) ≡ NoSize
@@ -60,7 +60,7 @@ module _ (s : Set) (r : Record) where
   -- where correction answers that there is none, +0.0 and accepted 0 stand there
   pub sized-without : (cols : ℕ) → correctOf s (samplesIn r) (r .sigma) (eqb (r .polarity) 1) ≡ Refused refusal.NoSize
       → sizedBytes s cols r ≡ recordBytes r ++ (floatBytes f0 ++ (halfBytes (r .key / cols) ++ (halfBytes (r .key % cols) ++ (0 ∷ 0 ∷ 0 ∷ 0 ∷ []))))
-  unfolding sizedBytes tailBytes sizeOf homeOf sigmaOf acceptedOf
+  unfolding sizedBytes tailBytes sizeOf homeOf givenSigma acceptedOf
   sized-without cols e = rw (no-size e)
 
 -- records that agree in the four samples, sigma and polarity have the same size, whatever else differs
@@ -100,7 +100,7 @@ module _ (s : Set) (rows cols : ℕ) (list out : List ℕ) (n : ℕ) (answered :
   abbrev after : List ℕ
   after = joinOf s rows cols list out .buffer
 
-  parts : (joinChecks s rows cols list (length out) ≡ Fine) × (n ≡ length list / 40) × (after ≡ laidSized s cols list out)
+  parts : (firstOf (joinChecks s rows cols list (length out)) ≡ Fine) × (n ≡ length list / 40) × (after ≡ laidSized s cols list out)
   unfolding joinOf
   parts = counted _ s cols list out n answered
 

@@ -16,7 +16,7 @@ use Rattle.words.proofs.WordsLaws.{length-floatBytes}
 use Rattle.record.proofs.LayoutLaws.{length-recordBytes}
 use Rattle.size.specs.declared.Corrected.{Corrected}
 use Rattle.join.specs.declared.Home.{Home}
-use Rattle.join.specs.Sized.{sigmaOf, acceptedOf, sizeOf, homeOf, halfBytes, tailBytes, sizedBytes}
+use Rattle.join.specs.Sized.{givenSigma, acceptedOf, sizeOf, homeOf, halfBytes, tailBytes, sizedBytes}
 use Rattle.join.specs.Join.{recordsFrom, recordsOf, sizedAll, laidSized, Fit}
 
 -- ---- lengths
@@ -28,7 +28,7 @@ length-halfBytes v = refl
 length-tailBytes : (size : Corrected) (home : Home) → length (tailBytes size home) ≡ 12
 unfolding tailBytes halfBytes
 length-tailBytes size home =
-    omega (arith, length-append (floatBytes (sigmaOf size)) (halfBytes (home .row) ++ (halfBytes (home .col) ++ (acceptedOf size ∷ 0 ∷ 0 ∷ 0 ∷ []))), length-floatBytes (sigmaOf size))
+    omega (arith, length-append (floatBytes (givenSigma size)) (halfBytes (home .row) ++ (halfBytes (home .col) ++ (acceptedOf size ∷ 0 ∷ 0 ∷ 0 ∷ []))), length-floatBytes (givenSigma size))
 
 pub length-sizedBytes : (s : Set) (cols : ℕ) (r : Record) → length (sizedBytes s cols r) ≡ 52
 unfolding sizedBytes
@@ -55,7 +55,7 @@ two-stores l i a b = let e : i + 1 ≡ suc i = omega arith in rw e
 
 -- the four parts of a tail, stored one after the other
 pub tail-parts : {b c d e : List ℕ} {sigma : Float} {accepted : ℕ} (a : List ℕ) (at : ℕ) (size : Corrected) (home : Home)
-    → sigma ≡ sigmaOf size
+    → sigma ≡ givenSigma size
     → accepted ≡ acceptedOf size
     → b ≡ sets a at (floatBytes sigma)
     → c ≡ sets b (at + 4) (halfBytes (home .row))

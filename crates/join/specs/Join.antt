@@ -5,11 +5,10 @@ use mathlib.Core.List.{List, [], _∷_, _++_}
 use lib.ListN.{length, drop}
 use lib.Dec.{ltb, eqb}
 use Rattle.tables.specs.declared.Set.{Set}
-use Rattle.tables.specs.declared.Refusal.the-variants.{Size, BadSet, Records, Room}
+use Rattle.tables.specs.declared.Refusal.the-variants.{Records, Room}
 use Rattle.tables.specs.declared.Checked.{Checked}
 use Rattle.tables.specs.declared.Checked.the-variants.{Fine, Bad}
-use Rattle.tables.specs.Refusal.{unless}
-use Rattle.tables.specs.Set.{good}
+use Rattle.tables.specs.Refusal.{Check, _when_, firstOf, sidesCheck, setCheck}
 use Rattle.record.specs.declared.Record.{Record}
 use Rattle.record.specs.Layout.{recordAt}
 use Rattle.record.specs.Readable.{readable}
@@ -35,15 +34,16 @@ firstBad rows cols b (suc n) i = cond (readable rows cols (recordAt b i)) (first
 abbrev pub badOf : ℕ → ℕ → List ℕ → ℕ
 badOf rows cols b = firstBad rows cols b (length b / 40) 0
 
--- the join's checks in their order: 1, 4, 5, 6; the length of the list is looked at before its records
-unfoldable pub joinChecks : Set → ℕ → ℕ → List ℕ → ℕ → Checked
+-- the join's checks in their order. 1: a side is too long; 4: the set is not good; 5: the length is no multiple of 40, with the whole record count;
+-- 5: a record is bad, with the first one's index; 6: the buffer is shorter than needed
+unfoldable pub joinChecks : Set → ℕ → ℕ → List ℕ → ℕ → List Check
 joinChecks s rows cols b room =
-    unless (ltb 4096 rows) Size
-    (unless (ltb 4096 cols) Size
-    (unless (not (good s)) BadSet
-    (unless (not (eqb (length b % 40) 0)) (Records (length b / 40))
-    (unless (ltb (badOf rows cols b) (length b / 40)) (Records (badOf rows cols b))
-    (unless (ltb room (length b / 40 * 52)) Room Fine)))))
+    sidesCheck rows cols
+    ∷ setCheck s
+    ∷ (Records (length b / 40) when not (eqb (length b % 40) 0))
+    ∷ (Records (badOf rows cols b) when ltb (badOf rows cols b) (length b / 40))
+    ∷ (Room when ltb room (length b / 40 * 52))
+    ∷ []
 
 -- sized records, one after the other
 unfoldable pub sizedAll : Set → ℕ → List Record → List ℕ
@@ -70,7 +70,7 @@ joined Fine s cols b out = outcome (Count (length b / 40)) (laidSized s cols b o
 
 -- the whole of the join
 unfoldable pub joinOf : Set → ℕ → ℕ → List ℕ → List ℕ → Outcome
-joinOf s rows cols b out = joined (joinChecks s rows cols b (length out)) s cols b out
+joinOf s rows cols b out = joined (firstOf (joinChecks s rows cols b (length out))) s cols b out
 
 -- a record whose home pixel lies on a map of rows by cols, sides to 4,096
 pub record Fit (rows cols : ℕ) (r : Record) : Type 0 where

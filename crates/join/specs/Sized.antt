@@ -14,9 +14,9 @@ use Rattle.size.specs.declared.Corrected.the-variants.{Sigma, NoSize}
 use Rattle.join.specs.declared.Home.{Home}
 
 -- the corrected sigma; where no size is given it is +0.0
-unfoldable pub sigmaOf : Corrected → Float
-sigmaOf (Sigma sigma) = sigma
-sigmaOf NoSize = f0
+unfoldable pub givenSigma : Corrected → Float
+givenSigma (Sigma sigma) = sigma
+givenSigma NoSize = f0
 
 -- accepted 1 or 0
 unfoldable pub acceptedOf : Corrected → ℕ
@@ -41,7 +41,7 @@ halfBytes v = v % 256 ∷ v / 256 ∷ []
 
 -- what follows the record: corrected sigma f32, home row u16, home col u16, accepted 1 or 0, three zero bytes
 unfoldable pub tailBytes : Corrected → Home → List ℕ
-tailBytes size home = floatBytes (sigmaOf size) ++ (halfBytes (home .row) ++ (halfBytes (home .col) ++ (acceptedOf size ∷ 0 ∷ 0 ∷ 0 ∷ [])))
+tailBytes size home = floatBytes (givenSigma size) ++ (halfBytes (home .row) ++ (halfBytes (home .col) ++ (acceptedOf size ∷ 0 ∷ 0 ∷ 0 ∷ [])))
 
 -- the 52 bytes
 unfoldable pub sizedBytes : Set → ℕ → Record → List ℕ

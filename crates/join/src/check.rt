@@ -2,6 +2,7 @@
 ghost use mathlib.Core.Path.{_≡_};
 ghost use Prim.Native.Nat.{_/_, _≤_};
 ghost use lib.ListN.{length};
+ghost use Rattle.tables.specs.Refusal.{firstOf};
 ghost use Rattle.join.specs.Join.{firstBad, joinChecks};
 use tables::Checked;
 use tables::Refusal;
@@ -24,14 +25,11 @@ fn first_bad(rows: usize, cols: usize, list: &[u8]) -> usize
     i
 }
 
-// The first refusal that applies, in the order of their numbers: 1, 4, 5, 6.
+// Of the checks, in their order (1, 4, 5 for the length, 5 for a record, 6), the first that holds.
 pub fn checked(set: Set, rows: usize, cols: usize, list: &[u8], room: usize) -> Checked
-    ensures { λ r. ⌜ r ≡ joinChecks set rows cols (now (list .entry)) room ⌝ }
+    ensures { λ r. ⌜ r ≡ firstOf (joinChecks set rows cols (now (list .entry)) room) ⌝ }
 {
-    if 4096 < rows {
-        return Checked::Bad(Refusal::Size);
-    }
-    if 4096 < cols {
+    if (4096 < rows) | (4096 < cols) {
         return Checked::Bad(Refusal::Size);
     }
     if !tables::is_good(set) {

@@ -4,8 +4,9 @@ ghost use mathlib.Core.List.{[], _∷_};
 ghost use Prim.Native.Nat.{_+_, _*_, _/_, _<_, _≤_, _^_};
 ghost use lib.ListN.{length};
 ghost use lib.Seq.{sets};
-ghost use Rattle.join.specs.Sized.{sigmaOf, acceptedOf, halfBytes, tailBytes, homeOf, sizeOf, sizedBytes};
+ghost use Rattle.join.specs.Sized.{givenSigma, acceptedOf, halfBytes, tailBytes, homeOf, sizeOf, sizedBytes};
 ghost use Rattle.tables.specs.declared.Checked.the-variants.{Fine};
+ghost use Rattle.tables.specs.Refusal.{firstOf};
 ghost use Rattle.join.specs.Join.{recordsFrom, sizedAll, joinChecks, Fit};
 use crate::Home;
 use record::Record;
@@ -13,8 +14,8 @@ use size::Corrected;
 use tables::Set;
 
 // The corrected sigma, +0.0 where no size is given.
-fn sigma_of(size: Corrected) -> f32
-    ensures { λ r. ⌜ r ≡ sigmaOf size ⌝ }
+fn given_sigma(size: Corrected) -> f32
+    ensures { λ r. ⌜ r ≡ givenSigma size ⌝ }
 {
     match size {
         Corrected::Sigma(sigma) => sigma,
@@ -74,7 +75,7 @@ fn put_tail(out: &mut [u8], at: usize, size: Corrected, home: Home)
     requires { ⌜ (home .row < 2 ^ 16) × (home .col < 2 ^ 16) ⌝ }
     ensures { λ _. ⌜ now (out .exit) ≡ sets (now (out .entry)) at (tailBytes size home) ⌝ }
 {
-    words::put_float(out, at, sigma_of(size));
+    words::put_float(out, at, given_sigma(size));
     put_half(out, at + 4, home.row);
     put_half(out, at + 6, home.col);
     words::put_bytes(out, at + 8, accepted_of(size), 0, 0, 0);
@@ -94,7 +95,7 @@ fn put_sized(out: &mut [u8], at: usize, set: Set, rows: usize, cols: usize, r: R
 
 // All records of the list, sized, from the buffer's start on; answers how many.
 pub fn put_all(set: Set, rows: usize, cols: usize, list: &[u8], out: &mut [u8]) -> usize
-    requires { ⌜ joinChecks set rows cols (now list) (length (now out)) ≡ Fine ⌝ }
+    requires { ⌜ firstOf (joinChecks set rows cols (now list) (length (now out))) ≡ Fine ⌝ }
     ensures { λ r. ⌜ (r ≡ length (now (list .entry)) / 40)
         × (now (out .exit) ≡ sets (now (out .entry)) 0 (sizedAll set cols (recordsFrom (now (list .entry)) (length (now (list .entry)) / 40) 0))) ⌝ }
 {

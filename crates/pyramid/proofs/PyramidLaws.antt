@@ -177,9 +177,9 @@ module _ (rows cols : ℕ) (l out : List Float) where
   refused-first r e = order.first-refused checks r (answer-refused rows cols l out _ r e)
 
   -- and the first that holds is answered
-  pub first-refused : (r : Refusal) → First checks r → after .answer ≡ Refused r
+  pub first-answered : (r : Refusal) → First checks r → after .answer ≡ Refused r
   unfolding downsampleOf downsampled
-  first-refused r f = rw (order.refused-first checks r f)
+  first-answered r f = rw (order.refused-first checks r f)
 
   -- a refusal writes nothing
   pub refused-keeps : (r : Refusal) → after .answer ≡ Refused r → after .buffer ≡ out

@@ -4,8 +4,8 @@ use Rattle.join.proofs.SizedLaws.{tail-parts}
 use Rattle.join.proofs.sized.put_tail.Statement.{statement}
 use Rattle.join.proofs.sized.put_tail.Tie as tie
 
-sigma-of-requires : tie.Need-sigma-of-requires
-sigma-of-requires c κs = search needs
+given-sigma-requires : tie.Need-given-sigma-requires
+given-sigma-requires c κs = search needs
 
 put-float-requires : tie.Need-put-float-requires
 put-float-requires c κs = search needs
@@ -41,13 +41,13 @@ returns c =
     let row = col .before .before .before .before in
     let sigma = row .before .before .before .before in
     let a = sigma .before .before .before .before .args in
-    tail-parts _ (a .at) (a .size) (a .home) (sigma .before .sigma-of .ensures) (bytes .before .accepted-of .ensures) (sigma .put-float .ensures) (row .put-half .ensures) (col .put-half2 .ensures) (bytes .put-bytes .ensures)
+    tail-parts _ (a .at) (a .size) (a .home) (sigma .before .given-sigma .ensures) (bytes .before .accepted-of .ensures) (sigma .put-float .ensures) (row .put-half .ensures) (col .put-half2 .ensures) (bytes .put-bytes .ensures)
 
 pub put-tail-spec : {M : Type 1} → statement M
 put-tail-spec =
     tie.close
     (tie.spec
-    sigma-of-requires
+    given-sigma-requires
     put-float-requires
     add-put-half
     put-half-requires
