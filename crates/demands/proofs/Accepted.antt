@@ -9,13 +9,12 @@ use Rattle.pixel.specs.Verdict.{wholeOf}
 use Rattle.alp.specs.Level.{Maps, nineAt}
 use Rattle.alp.specs.Due.{due}
 use Rattle.demands.specs.List.{Stands}
-use Rattle.demands.proofs.Judge.{judged-readable, judged-whole}
 use Rattle.demands.proofs.Listed.{list-is, own-key}
 
 module _ (m : Maps) (r : Record) (h : Stands (due m) r) where
   -- The join accepts each listed record.
   pub join-accepts : readable (m .frame .rows) (m .frame .cols) r ≡ true
-  join-accepts = let a = list-is m r .0 h in judged-readable m (a .row) (a .col) (a .isMax) r (a .verdict)
+  join-accepts = list-is m r .0 h .rules .join-accepts
 
   -- Each float in a listed record is finite.
   pub floats-finite : Finite r
@@ -25,5 +24,5 @@ module _ (m : Maps) (r : Record) (h : Stands (due m) r) where
   pub samples-finite : wholeOf (nineAt m (r .key / m .frame .cols) (r .key % m .frame .cols)) ≡ true
   samples-finite =
       let a = list-is m r .0 h in
-      let own = own-key m (a .row) (a .col) (a .isMax) r (a .judged) (a .verdict) .1 in
-      rw (own .row-is, own .col-is) (judged-whole m (a .row) (a .col) (a .isMax) r (a .verdict))
+      let own = own-key m (a .row) (a .col) (a .isMax) r (a .judged) (a .rules) .1 in
+      rw (own .row-is, own .col-is) (a .rules .samples-finite)

@@ -18,15 +18,13 @@ use Rattle.refine.proofs.RefineLaws.{accepted-displaced}
 use Rattle.record.specs.declared.Record.{Record}
 use Rattle.record.specs.Layout.{Held}
 use Rattle.record.proofs.ReadableLaws.{readable-parts}
-use Rattle.pixel.specs.declared.Verdict.the-variants.{Listed}
 use Rattle.pixel.specs.Gate.{sigmaOf, peakOf}
 use Rattle.pixel.specs.Verdict.{anchorOf, recordOf}
 use Rattle.pixel.specs.Rules.{cubicsAt, ownSamples}
-use Rattle.pixel.proofs.VerdictLaws.{listed-admits}
 use Rattle.alp.specs.Level.{Maps, stencilOf, sampleAt, samplesOf, samplesAt, nineAt}
-use Rattle.alp.specs.Due.{judgeOf, due}
+use Rattle.alp.specs.Due.{due}
 use Rattle.alp.proofs.LevelLaws.{area, nine-centre}
-use Rattle.demands.specs.List.{Stands}
+use Rattle.demands.specs.List.{Stands, AdmitsAt}
 use Rattle.demands.proofs.Listed.{list-is}
 use Rattle.demands.proofs.Accepted.{join-accepts}
 
@@ -125,10 +123,9 @@ peak-fits e isMax h = cond-fits binary32 isMax _ _ (h .emax) (h .emin)
 
 -- ---- the record
 
-listed-held : (m : Maps) (row col : ℕ) (isMax : Bool) (r : Record) → r .key < 2 ^ 32 → judgeOf m row col isMax ≡ Listed r → Held r
-unfolding judgeOf recordOf anchorOf
-listed-held m row col isMax r word h =
-    let a = listed-admits (m .set) (m .thresholds) (m .frame) (nineAt m row col) row col isMax r h in
+admitted-held : (m : Maps) (row col : ℕ) (isMax : Bool) (r : Record) → r .key < 2 ^ 32 → AdmitsAt m row col isMax r → Held r
+unfolding recordOf anchorOf
+admitted-held m row col isMax r word a =
     let moved = accepted-displaced ours (m .set) (m .thresholds .ratio) (cubicsAt (m .set) (nineAt m row col)) _ (a .spot) (a .refinement) in
     let l = own-samples-fit m row col in
     let e = shape-fits _ (m .set .sigmas) _ _ (l .s0) (l .s3) in
@@ -150,4 +147,4 @@ pub list-held : (m : Maps) (r : Record) → m .frame .rows ≤ 4096 → m .frame
 list-held m r rows-most cols-most h =
     let a = list-is m r .0 h in
     let below = readable-parts (m .frame .rows) (m .frame .cols) r (join-accepts m r h) .key in
-    listed-held m (a .row) (a .col) (a .isMax) r (omega (arith, area rows-most cols-most)) (a .verdict)
+    admitted-held m (a .row) (a .col) (a .isMax) r (omega (arith, area rows-most cols-most)) (a .rules)

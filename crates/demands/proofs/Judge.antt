@@ -1,36 +1,35 @@
 -- What the laws of the verdict say of a map's pixels. Assumes nothing.
 use Prim.Native.Nat.{ℕ, _+_, _*_}
 use mathlib.Core.Path.{_≡_, refl}
-use mathlib.Core.Bool.{Bool, true, false}
+use mathlib.Core.Bool.{Bool, false}
 use Rattle.record.specs.declared.Record.{Record}
-use Rattle.record.specs.Readable.{readable}
 use Rattle.pixel.specs.declared.Verdict.the-variants.{Listed, Nothing}
 use Rattle.pixel.specs.Verdict.{wholeOf, polarityOf}
-use Rattle.pixel.proofs.VerdictLaws.{listed-key, listed-polarity, listed-readable, not-whole}
+use Rattle.pixel.proofs.VerdictLaws.{listed-admits, admits-listed, listed-key, listed-polarity, not-whole}
 use Rattle.alp.specs.Level.{Maps, nineAt}
 use Rattle.alp.specs.Due.{judgeOf}
+use Rattle.demands.specs.List.{AdmitsAt}
 
 module _ (m : Maps) (row col : ℕ) (isMax : Bool) where
   pub judged-nothing : wholeOf (nineAt m row col) ≡ false → judgeOf m row col isMax ≡ Nothing
   unfolding judgeOf
   judged-nothing = not-whole (m .set) (m .thresholds) (m .frame) (nineAt m row col) row col isMax
 
-  module _ (r : Record) (h : judgeOf m row col isMax ≡ Listed r) where
-    pub judged-key : r .key ≡ row * m .frame .cols + col
+  module _ (r : Record) where
+    -- what a pixel lists meets the rules
+    pub judged-admits : judgeOf m row col isMax ≡ Listed r → AdmitsAt m row col isMax r
     unfolding judgeOf
-    judged-key = listed-key (m .set) (m .thresholds) (m .frame) (nineAt m row col) row col isMax r h
+    judged-admits = listed-admits (m .set) (m .thresholds) (m .frame) (nineAt m row col) row col isMax r
 
-    pub judged-polarity : r .polarity ≡ polarityOf isMax
+    -- what meets the rules is listed
+    pub admits-judged : AdmitsAt m row col isMax r → judgeOf m row col isMax ≡ Listed r
     unfolding judgeOf
-    judged-polarity = listed-polarity (m .set) (m .thresholds) (m .frame) (nineAt m row col) row col isMax r h
+    admits-judged = admits-listed (m .set) (m .thresholds) (m .frame) (nineAt m row col) row col isMax r
 
-    pub judged-readable : readable (m .frame .rows) (m .frame .cols) r ≡ true
+    pub judged-key : judgeOf m row col isMax ≡ Listed r → r .key ≡ row * m .frame .cols + col
     unfolding judgeOf
-    judged-readable = listed-readable (m .set) (m .thresholds) (m .frame) (nineAt m row col) row col isMax r h
+    judged-key = listed-key (m .set) (m .thresholds) (m .frame) (nineAt m row col) row col isMax r
 
-    whole-or-not : (b : Bool) → wholeOf (nineAt m row col) ≡ b → b ≡ true
-    whole-or-not true e = refl
-    whole-or-not false e = let none = judged-nothing e in cc
-
-    pub judged-whole : wholeOf (nineAt m row col) ≡ true
-    judged-whole = whole-or-not (wholeOf (nineAt m row col)) refl
+    pub judged-polarity : judgeOf m row col isMax ≡ Listed r → r .polarity ≡ polarityOf isMax
+    unfolding judgeOf
+    judged-polarity = listed-polarity (m .set) (m .thresholds) (m .frame) (nineAt m row col) row col isMax r

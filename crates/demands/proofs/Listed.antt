@@ -14,8 +14,8 @@ use Rattle.pixel.specs.Verdict.{polarityOf}
 use Rattle.alp.specs.Level.{Maps}
 use Rattle.alp.specs.Due.{judgeOf, listed, pixelDue, rowDue, rowsDue, due}
 use Rattle.alp.proofs.DueLaws.{listed-short}
-use Rattle.demands.specs.List.{StandsAt, Stands, Judged, Admitted, Rising, Of, OnlyOne}
-use Rattle.demands.proofs.Judge.{judged-key, judged-polarity}
+use Rattle.demands.specs.List.{StandsAt, Stands, Judged, AdmitsAt, Admitted, Rising, Of, OnlyOne}
+use Rattle.demands.proofs.Judge.{judged-admits, admits-judged, judged-key, judged-polarity}
 use Rattle.demands.proofs.Places.{at-short, stands-left, stands-right, stands-cases, rising-append, rising-once}
 
 -- ---- what a verdict lists
@@ -168,7 +168,7 @@ module _ (m : Maps) where
         col = p .of-row .number + 4;
         isMax = p .of-row .pixel .isMax;
         judged = record { top = omega arith; bottom = omega arith; left = omega arith; right = omega arith };
-        verdict = p .of-row .pixel .verdict;
+        rules = judged-admits m (p .number + 4) (p .of-row .number + 4) (p .of-row .pixel .isMax) r (p .of-row .pixel .verdict);
       }
 
   due-all : (r : Record) → Admitted m r → Stands (due m) r
@@ -177,9 +177,10 @@ module _ (m : Maps) where
       let row-is : a .row - 4 + 4 ≡ a .row = omega arith in
       let col-is : a .col - 4 + 4 ≡ a .col = omega arith in
       rows-all (m .frame .rows - 8) (a .row - 4) r (omega arith)
-      (row-all (a .row - 4 + 4) (m .frame .cols - 8) (a .col - 4) (a .isMax) r (omega arith) (rw (row-is, col-is) (a .verdict)))
+      (row-all (a .row - 4 + 4) (m .frame .cols - 8) (a .col - 4) (a .isMax) r (omega arith)
+      (rw (row-is, col-is) (admits-judged m (a .row) (a .col) (a .isMax) r (a .rules))))
 
-  -- A record is in the list exactly when some judged pixel is admitted at one of the polarities and this is its record.
+  -- A record is in the list exactly when some judged pixel meets the rules at one of the polarities and this is its record.
   pub list-is : (r : Record) → Stands (due m) r ↔ Admitted m r
   list-is r = (due-only r, due-all r)
 
@@ -192,42 +193,41 @@ module _ (m : Maps) where
   pub list-once : (i j : ℕ) (r : Record) → StandsAt (due m) i r → StandsAt (due m) j r → i ≡ j
   list-once = rising-once (due m) list-rises
 
-  -- A listed record's key tells the pixel that it was found at, and its polarity byte the polarity.
-  pub own-key : (row col : ℕ) (isMax : Bool) (r : Record) → Judged (m .frame) row col → judgeOf m row col isMax ≡ Listed r
+  -- The key of a record that meets the rules tells the pixel that it was found at, and its polarity byte the polarity.
+  pub own-key : (row col : ℕ) (isMax : Bool) (r : Record) → Judged (m .frame) row col → AdmitsAt m row col isMax r
       → (r .key ≡ row * m .frame .cols + col) × Of (m .frame .cols) row col isMax r
   own-key row col isMax r inside h =
-      let key = judged-key m row col isMax r h in
+      let is = admits-judged m row col isMax r h in
+      let key = judged-key m row col isMax r is in
       let on : col < m .frame .cols = omega arith in
-      (key, record { row-is = rw key (digits-div row on); col-is = rw key (digits-mod row on); polarity-is = judged-polarity m row col isMax r h })
+      (key, record { row-is = rw key (digits-div row on); col-is = rw key (digits-mod row on); polarity-is = judged-polarity m row col isMax r is })
 
-  -- a record of the list is what the pixel and polarity that it tells of list
-  told : (row col : ℕ) (isMax : Bool) (t : Record) → Stands (due m) t → Of (m .frame .cols) row col isMax t → judgeOf m row col isMax ≡ Listed t
+  -- A record of the list meets the rules at the pixel and polarity that it tells of.
+  pub told : (row col : ℕ) (isMax : Bool) (t : Record) → Stands (due m) t → Of (m .frame .cols) row col isMax t → AdmitsAt m row col isMax t
   told row col isMax t h of =
       let a = due-only t h in
-      let own = own-key (a .row) (a .col) (a .isMax) t (a .judged) (a .verdict) .1 in
+      let own = own-key (a .row) (a .col) (a .isMax) t (a .judged) (a .rules) .1 in
       let row-is : a .row ≡ row = sym (own .row-is) ∙ of .row-is in
       let col-is : a .col ≡ col = sym (own .col-is) ∙ of .col-is in
       let polarity-is : a .isMax ≡ isMax = polarity-tells (a .isMax) isMax (sym (own .polarity-is) ∙ of .polarity-is) in
-      rw (row-is, col-is, polarity-is) at (a .verdict)
+      judged-admits m row col isMax t (rw (row-is, col-is, polarity-is) at (admits-judged m (a .row) (a .col) (a .isMax) t (a .rules)))
 
-  -- Each judged pixel that is admitted at a polarity has exactly one record in the list, and that record's key is its own.
-  pub exactly-one : (row col : ℕ) (isMax : Bool) (r : Record) → Judged (m .frame) row col → judgeOf m row col isMax ≡ Listed r
+  -- Each judged pixel that meets the rules at a polarity has exactly one record in the list, and that record's key is its own.
+  pub exactly-one : (row col : ℕ) (isMax : Bool) (r : Record) → Judged (m .frame) row col → AdmitsAt m row col isMax r
       → OnlyOne (due m) (m .frame .cols) row col isMax r
   exactly-one row col isMax r inside h =
-      let stands = due-all r (record { row = row; col = col; isMax = isMax; judged = inside; verdict = h }) in
+      let stands = due-all r (record { row = row; col = col; isMax = isMax; judged = inside; rules = h }) in
+      let is-r = admits-judged m row col isMax r h in
       record {
         stands = stands;
         own = own-key row col isMax r inside h .1;
         only = λ t j at-j of.
-            let is = told row col isMax t (record { place = j; there = at-j }) of in
+            let is-t = admits-judged m row col isMax t (told row col isMax t (record { place = j; there = at-j }) of) in
             let same : t ≡ r = cc in
             (same, list-once j (stands .place) r (subst (StandsAt (due m) j) same at-j) (stands .there));
       }
 
-  -- A pixel that is not admitted at a polarity has no record in the list.
-  pub none-else : (row col : ℕ) (isMax : Bool) → judgeOf m row col isMax ≡ Nothing → (t : Record) → Stands (due m) t
-      → Of (m .frame .cols) row col isMax t → ⊥
-  none-else row col isMax h t stands of =
-      let is = told row col isMax t stands of in
-      let z : _≡_ {A = ℕ} 0 1 = cc in
-      omega arith
+  -- A pixel that meets the rules at a polarity with no record has no record in the list.
+  pub none-else : (row col : ℕ) (isMax : Bool) → ((r : Record) → AdmitsAt m row col isMax r → ⊥)
+      → (t : Record) → Stands (due m) t → Of (m .frame .cols) row col isMax t → ⊥
+  none-else row col isMax none t stands of = none t (told row col isMax t stands of)

@@ -1,8 +1,9 @@
 -- Demand 3: the list of a map that lost pixels is the whole map's, less the spots with a lost pixel among their 21. Assumes nothing.
 use Prim.Native.Nat.{ℕ, zero, suc, _+_, _-_, _*_, _≤_, _<_}
 use native.Mathlib.Omega.{arith}
-use mathlib.Core.Path.{_≡_, refl, sym}
-use mathlib.Core.Bool.{Bool, true, false, cond}
+use mathlib.Core.Path.{_≡_, refl, sym, _∙_}
+use mathlib.Core.Bool.{Bool, true, false, cond, true≢false}
+use mathlib.Core.Logic.{_↔_}
 use mathlib.Core.List.{List, [], _∷_, _++_}
 use lib.Arith.{digits-div, digits-mod}
 use lib.Ieee.{Float}
@@ -15,11 +16,11 @@ use Rattle.pixel.specs.declared.Verdict.the-variants.{Listed, Nothing}
 use Rattle.pixel.specs.Verdict.{wholeOf}
 use Rattle.alp.specs.Level.{Maps, mapsOf, nineAt}
 use Rattle.alp.specs.Due.{judgeOf, listed, pixelDue, rowDue, rowsDue, due}
-use Rattle.demands.specs.List.{Judged}
+use Rattle.demands.specs.List.{Judged, AdmitsAt}
 use Rattle.demands.specs.TwoMaps.{of21, clear, spared, keep, Same, Lossy}
 use Rattle.float.proofs.Bools.{contrary, excluded}
 use Rattle.demands.proofs.Samples.{nine-finite, nine-same}
-use Rattle.demands.proofs.Judge.{judged-key, judged-nothing}
+use Rattle.demands.proofs.Judge.{judged-admits, admits-judged, judged-key, judged-nothing}
 use Rattle.demands.proofs.Ring.{near-both}
 use Rattle.demands.proofs.Clear.{clear-is}
 
@@ -52,14 +53,21 @@ module _ (lost : ℕ → ℕ → Bool) (f : Frame) (s : Set) (th : Thresholds) (
   -- ---- one pixel
 
   module _ (row col : ℕ) (inside : Judged f row col) where
-    -- A lost pixel outside a spot's 21 changes nothing for it: where none of the 21 is lost, both maps are judged alike.
-    pub outside-changes-nothing : ((r c : ℕ) → of21 row col r c ≡ true → lost r c ≡ false)
-        → (isMax : Bool) → judgeOf B row col isMax ≡ judgeOf A row col isMax
+    judged-alike : ((r c : ℕ) → of21 row col r c ≡ true → lost r c ≡ false) → (isMax : Bool) → judgeOf B row col isMax ≡ judgeOf A row col isMax
     unfolding judgeOf
-    outside-changes-nothing none isMax =
+    judged-alike none isMax =
         let same : (r c : ℕ) → of21 row col r c ≡ true → Same A B r c =
         (λ r c on. let near = near-both row col r c on in h .stays r c (omega arith) (omega arith) (none r c on)) in
         rw (nine-same f s th a0 a1 a2 a3 b0 b1 b2 b3 row col (omega arith) (omega arith) same)
+
+    -- A lost pixel outside a spot's 21 changes nothing for it: where none of the 21 is lost, the rules are met on the second map exactly where they are on the first, with the same record.
+    pub outside-changes-nothing : ((r c : ℕ) → of21 row col r c ≡ true → lost r c ≡ false)
+        → (isMax : Bool) (r : Record) → AdmitsAt B row col isMax r ↔ AdmitsAt A row col isMax r
+    outside-changes-nothing none isMax r =
+        let same = judged-alike none isMax in (
+          λ b. judged-admits A row col isMax r (sym same ∙ admits-judged B row col isMax r b),
+          λ a. judged-admits B row col isMax r (same ∙ admits-judged A row col isMax r a),
+        )
 
     not-lost : wholeOf (nineAt B row col) ≡ true → (r c : ℕ) → of21 row col r c ≡ true → lost r c ≡ false
     not-lost whole r c on =
@@ -72,10 +80,9 @@ module _ (lost : ℕ → ℕ → Bool) (f : Frame) (s : Set) (th : Thresholds) (
         judged-nothing B row col isMax
         (contrary (λ whole. clear-is lost row col .1 (not-lost whole)) t)
 
-    -- A lost pixel among a spot's 21 strikes it: the second map lists nothing there.
-    pub inside-strikes : (r c : ℕ) → of21 row col r c ≡ true → lost r c ≡ true → (isMax : Bool) → judgeOf B row col isMax ≡ Nothing
-    inside-strikes r c on gone =
-        judged-none (excluded (λ t. clear-is lost row col .0 t r c on) gone)
+    -- A lost pixel among a spot's 21 strikes it: on the second map no record meets the rules there.
+    pub inside-strikes : (r c : ℕ) → of21 row col r c ≡ true → lost r c ≡ true → (isMax : Bool) (t : Record) → AdmitsAt B row col isMax t → ⊥
+    inside-strikes r c on gone isMax t b = true≢false (sym gone ∙ not-lost (b .samples-finite) r c on)
 
     spared-here : (r : Record) → r .key ≡ row * f .cols + col → spared lost (f .cols) r ≡ clear lost row col
     unfolding spared
@@ -88,7 +95,7 @@ module _ (lost : ℕ → ℕ → Bool) (f : Frame) (s : Set) (th : Thresholds) (
     by-clear : (t : Bool) → clear lost row col ≡ t
         → listed (judgeOf B row col false) ++ listed (judgeOf B row col true) ≡ cond t (listed (judgeOf A row col false)) [] ++ cond t (listed (judgeOf A row col true)) []
     unfolding listed
-    by-clear true e = let none = clear-is lost row col .0 e in rw (outside-changes-nothing none false, outside-changes-nothing none true)
+    by-clear true e = let none = clear-is lost row col .0 e in rw (judged-alike none false, judged-alike none true)
     by-clear false e = rw (judged-none e false, judged-none e true)
 
     pixel-two : pixelDue B row col ≡ keep (spared lost (f .cols)) (pixelDue A row col)

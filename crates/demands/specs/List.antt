@@ -6,10 +6,9 @@ use mathlib.Core.Logic.{_⊎_}
 use mathlib.Core.List.{List, [], _∷_}
 use Rattle.record.specs.declared.Record.{Record}
 use Rattle.pixel.specs.declared.Frame.{Frame}
-use Rattle.pixel.specs.declared.Verdict.the-variants.{Listed}
 use Rattle.pixel.specs.Verdict.{polarityOf}
-use Rattle.alp.specs.Level.{Maps, Within}
-use Rattle.alp.specs.Due.{judgeOf}
+use Rattle.pixel.specs.Rules.{Admits}
+use Rattle.alp.specs.Level.{Maps, Within, nineAt}
 
 -- the record r stands at the place i of the list, counted from 0
 unfoldable pub StandsAt : List Record → ℕ → Record → Type 0
@@ -26,13 +25,17 @@ pub record Stands (rs : List Record) (r : Record) : Type 0 where
 abbrev pub Judged : Frame → ℕ → ℕ → Type 0
 Judged f row col = Within 4 f row col
 
--- some judged pixel lists r at one of the polarities
+-- the pixel (row, col) of the map meets each of the rules at a polarity, with the record r
+abbrev pub AdmitsAt : Maps → ℕ → ℕ → Bool → Record → Type 0
+AdmitsAt m row col isMax r = Admits (m .set) (m .thresholds) (m .frame) (nineAt m row col) row col isMax r
+
+-- some judged pixel meets the rules at one of the polarities, with the record r
 pub record Admitted (m : Maps) (r : Record) : Type 0 where
   pub row : ℕ
   pub col : ℕ
   pub isMax : Bool
   pub judged : Judged (m .frame) row col
-  pub verdict : judgeOf m row col isMax ≡ Listed r
+  pub rules : AdmitsAt m row col isMax r
 
 -- r comes before t: its key is smaller, or the keys are equal, r is a minimum and t a maximum
 abbrev pub Before : Record → Record → Type 0
