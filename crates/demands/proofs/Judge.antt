@@ -1,6 +1,6 @@
 -- What the laws of the verdict say of a map's pixels. Assumes nothing.
 use Prim.Native.Nat.{ℕ, _+_, _*_}
-use mathlib.Core.Path.{_≡_, refl}
+use mathlib.Core.Path.{_≡_}
 use mathlib.Core.Bool.{Bool, false}
 use Rattle.record.specs.declared.Record.{Record}
 use Rattle.pixel.specs.declared.Verdict.the-variants.{Listed, Nothing}

@@ -1,0 +1,7 @@
+-- An accepted spot lies on its map (OnMap); the samples test and the join's test refuse nothing (Samples, Accepted), so the list is the one by the Rust's own tests (Rust).
+pub mod Displaced
+pub mod OnMap
+pub mod Samples
+mod Envelope
+pub mod Accepted
+pub mod Rust
