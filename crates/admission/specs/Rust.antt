@@ -1,50 +1,69 @@
--- What the Rust's own tests let through: the verdict and the list without the test that document 01 adds. Definitions only.
+-- What the Rust's own tests let through: the verdict and the list without the test that document 01 adds, for any choice of zeros that the Rust leaves open. Definitions only.
 use Prim.Native.Nat.{ℕ, zero, suc, _+_, _-_, _*_}
-use mathlib.Core.Bool.{Bool, true, false, cond}
+use mathlib.Core.Bool.{Bool, true, false, cond, _&&_}
 use mathlib.Core.List.{List, [], _++_}
+use lib.ListN.{getD}
 use lib.Ieee.{Float}
 use Rattle.tables.specs.declared.Set.{Set}
 use Rattle.tables.specs.declared.Thresholds.{Thresholds}
-use Rattle.refine.specs.Refine.{refineOf}
+use Rattle.fit.specs.Cubic.{_at_}
+use Rattle.fit.specs.Prims.{Prims, ours}
+use Rattle.fit.specs.Envelope.{shapeBy}
+use Rattle.fit.specs.Band.{bandBy}
+use Rattle.refine.specs.Refine.{refineBy}
 use Rattle.refine.specs.declared.Refined.{Refined}
 use Rattle.refine.specs.declared.Refined.the-variants.{Accepted, Rejected}
 use Rattle.record.specs.declared.Record.{Record}
 use Rattle.pixel.specs.declared.Frame.{Frame}
 use Rattle.pixel.specs.declared.Verdict.{Verdict}
 use Rattle.pixel.specs.declared.Verdict.the-variants.{Listed, Nothing}
-use Rattle.pixel.specs.Verdict.{anchorOf, recordOf}
-use Rattle.pixel.specs.Rules.{cubicsAt, ownSamples, ownSigma, ownPeak}
-use Rattle.pixel.specs.Stands.{standsOf}
+use Rattle.pixel.specs.Gate.{sigmaOf, peakOf, gateBy}
+use Rattle.pixel.specs.Ring.{ringBy}
+use Rattle.pixel.specs.Verdict.{cubicsOf, anchorOf, recordOf}
 use Rattle.alp.specs.Level.{Maps, nineAt}
 use Rattle.alp.specs.Due.{listed}
+use Rattle.zeros.specs.Choices.{Choices, allOurs}
 
 -- an accepted spot's record is listed: it is not asked whether the join accepts it
 unfoldable pub keptOf : List Float → ℕ → Refined → Verdict
 keptOf l key (Accepted spot) = Listed (recordOf spot l key)
 keptOf l key Rejected = Nothing
 
--- The verdict by the pixel's own gates, the neighbours and the refinement: it is not asked whether all samples are finite.
-unfoldable pub rustVerdictOf : Set → Thresholds → Frame → List (List Float) → ℕ → ℕ → Bool → Verdict
-rustVerdictOf s th f nine row col isMax =
+-- The verdict as verdictBy has it, but it is not asked whether all samples are finite: the pixel's own gates pass, its peak beats the eight neighbours, and the refinement accepts.
+unfoldable pub rustVerdictBy : (ℕ → Prims) → Set → Thresholds → Frame → List (List Float) → ℕ → ℕ → Bool → Verdict
+rustVerdictBy P s th f nine row col isMax =
+    let k = cubicsOf (s .scale) nine in
+    let l = getD nine 4 [] in
+    let e = shapeBy (P 4) (getD k 4 []) (s .sigmas) (l at 0) (l at 3) in
+    let sigma = sigmaOf e isMax in
+    let peak = peakOf e isMax in
     cond
-    (standsOf (s .scale) (s .sigmas) th nine isMax)
-    (keptOf (ownSamples nine) (row * f .cols + col) (refineOf s (th .ratio) (cubicsAt s nine) (anchorOf row col (ownSigma s nine isMax) (ownPeak s nine isMax) (f .octave) isMax)))
+    (gateBy (P 4) th l (getD k 4 []) sigma peak isMax && ringBy P k peak (bandBy (P 4) (s .sigmas) sigma) isMax)
+    (keptOf l (row * f .cols + col) (refineBy (P 4) s (th .ratio) k (anchorOf row col sigma peak (f .octave) isMax)))
     Nothing
 
--- that on a pixel of the map
-unfoldable pub rustJudgeOf : Maps → ℕ → ℕ → Bool → Verdict
-rustJudgeOf m row col isMax = rustVerdictOf (m .set) (m .thresholds) (m .frame) (nineAt m row col) row col isMax
+-- with this build's choices of zeros
+abbrev pub rustVerdictOf : Set → Thresholds → Frame → List (List Float) → ℕ → ℕ → Bool → Verdict
+rustVerdictOf = rustVerdictBy (λ i. ours)
+
+-- the verdict on a pixel of the map
+unfoldable pub rustJudgeBy : Choices → Maps → ℕ → ℕ → Bool → Verdict
+rustJudgeBy P m row col isMax = rustVerdictBy (P row col isMax) (m .set) (m .thresholds) (m .frame) (nineAt m row col) row col isMax
 
 -- what the first n judged pixels of a row list, the minimum before the maximum at each
-unfoldable pub rustRowDue : Maps → ℕ → ℕ → List Record
-rustRowDue m row zero = []
-rustRowDue m row (suc n) = rustRowDue m row n ++ (listed (rustJudgeOf m row (n + 4) false) ++ listed (rustJudgeOf m row (n + 4) true))
+unfoldable pub rustRowBy : Choices → Maps → ℕ → ℕ → List Record
+rustRowBy P m row zero = []
+rustRowBy P m row (suc n) = rustRowBy P m row n ++ (listed (rustJudgeBy P m row (n + 4) false) ++ listed (rustJudgeBy P m row (n + 4) true))
 
 -- what the first n judged rows list
-unfoldable pub rustRowsDue : Maps → ℕ → List Record
-rustRowsDue m zero = []
-rustRowsDue m (suc n) = rustRowsDue m n ++ rustRowDue m (n + 4) (m .frame .cols - 8)
+unfoldable pub rustRowsBy : Choices → Maps → ℕ → List Record
+rustRowsBy P m zero = []
+rustRowsBy P m (suc n) = rustRowsBy P m n ++ rustRowBy P m (n + 4) (m .frame .cols - 8)
 
 -- the whole list
-unfoldable pub rustDue : Maps → List Record
-rustDue m = rustRowsDue m (m .frame .rows - 8)
+unfoldable pub rustDueBy : Choices → Maps → List Record
+rustDueBy P m = rustRowsBy P m (m .frame .rows - 8)
+
+-- with this build's choices of zeros
+abbrev pub rustDue : Maps → List Record
+rustDue = rustDueBy allOurs

@@ -1,5 +1,5 @@
 -- Laws of the judgement of one pixel.
-mod NineLaws
+pub mod NineLaws
 pub mod GateLaws
 pub mod RingLaws
 pub mod VerdictLaws
