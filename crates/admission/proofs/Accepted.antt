@@ -14,9 +14,7 @@ use Rattle.tables.specs.declared.Set.{Set}
 use Rattle.tables.specs.declared.Thresholds.{Thresholds}
 use Rattle.fit.specs.Cubic.{_at_, curvatureOf}
 use Rattle.fit.specs.Prims.{Prims, Allowed}
-use Rattle.fit.specs.Envelope.{shapeBy}
 use Rattle.fit.specs.declared.Band.{Band}
-use Rattle.fit.specs.declared.Envelope.{Envelope}
 use Rattle.fit.proofs.Finite.{sum-finite, product-finite}
 use Rattle.refine.specs.Refine.{refineBy}
 use Rattle.refine.specs.declared.Spot.{Spot}
@@ -30,6 +28,7 @@ use Rattle.pixel.specs.Ring.{ringBy}
 use Rattle.pixel.specs.Verdict.{anchorOf, polarityOf, recordOf}
 use Rattle.pixel.specs.Rules.{cubicsAt, ownSamples, ownCubic}
 use Rattle.alp.specs.Level.{Within}
+use Rattle.admission.specs.Rust.{ownShapeBy}
 use Rattle.admission.proofs.OnMap.{accepted-on-map}
 use Rattle.admission.proofs.Samples.{gate-curvature, places-finite}
 use Rattle.admission.proofs.Envelope.{peak-finite}
@@ -45,21 +44,23 @@ unfolding curvatureOf
 curved-sigma k sigma h = product-finite (f6 ⊗ k at 0) sigma (sum-finite _ _ h .0) .1
 
 module _ (P : ℕ → Prims) (allowed : Allowed (P 4)) (s : Set) (th : Thresholds) (f : Frame) (nine : List (List Float)) (row col : ℕ) (isMax : Bool) where
-  -- the envelope of the pixel's own samples
-  abbrev pub shape : Envelope
-  shape = shapeBy (P 4) (ownCubic s nine) (s .sigmas) (ownSamples nine at 0) (ownSamples nine at 3)
+  -- the sigma of its extreme
+  abbrev sigma : Float
+  sigma = sigmaOf (ownShapeBy (P 4) s nine) isMax
+
+  -- the response there
+  abbrev peak : Float
+  peak = peakOf (ownShapeBy (P 4) s nine) isMax
 
   -- The test that the join accepts a record refuses no spot of a judged pixel whose gates pass, whose peak beats the eight neighbours and which the refinement
   -- accepts, on a map of sides to 4,096 and an octave to 5, whatever the set and the thresholds.
   pub readable-test-never-fires : length nine ≡ 9 → f .rows ≤ 4096 → f .cols ≤ 4096 → f .octave ≤ 5 → Within 4 f row col → (band : Band)
-      → gateBy (P 4) th (ownSamples nine) (ownCubic s nine) (sigmaOf shape isMax) (peakOf shape isMax) isMax ≡ true
-      → ringBy P (cubicsAt s nine) (peakOf shape isMax) band isMax ≡ true
-      → (spot : Spot) → refineBy (P 4) s (th .ratio) (cubicsAt s nine) (anchorOf row col (sigmaOf shape isMax) (peakOf shape isMax) (f .octave) isMax) ≡ Accepted spot
+      → gateBy (P 4) th (ownSamples nine) (ownCubic s nine) sigma peak isMax ≡ true
+      → ringBy P (cubicsAt s nine) peak band isMax ≡ true
+      → (spot : Spot) → refineBy (P 4) s (th .ratio) (cubicsAt s nine) (anchorOf row col sigma peak (f .octave) isMax) ≡ Accepted spot
       → readable (f .rows) (f .cols) (recordOf spot (ownSamples nine) (row * f .cols + col)) ≡ true
   unfolding recordOf anchorOf
   readable-test-never-fires nine-long rows-most cols-most octave-most inside band gates ring spot h =
-      let sigma = sigmaOf shape isMax in
-      let peak = peakOf shape isMax in
       let place = accepted-on-map (P 4) s (th .ratio) (cubicsAt s nine) f row col sigma peak (f .octave) isMax spot rows-most cols-most inside h in
       let moved = accepted-displaced (P 4) s (th .ratio) (cubicsAt s nine) _ spot h in
       let own = places-finite P (s .scale) th nine nine-long sigma peak band isMax gates ring 4 (omega arith) in

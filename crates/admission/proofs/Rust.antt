@@ -37,9 +37,9 @@ use Rattle.alp.proofs.RefusalsLaws.{found-none}
 use Rattle.zeros.specs.Choices.{Choices, AllAllowed, allOurs, judgeBy, pixelDueBy, rowDueBy, rowsDueBy, dueBy}
 use Rattle.zeros.specs.Alike.{RecordsNear}
 use Rattle.zeros.proofs.ListNear.{due-ours, due~}
-use Rattle.admission.specs.Rust.{keptOf, rustVerdictBy, rustJudgeBy, rustRowBy, rustRowsBy, rustDueBy, rustDue}
+use Rattle.admission.specs.Rust.{ownShapeBy, keptOf, rustVerdictBy, rustJudgeBy, rustRowBy, rustRowsBy, rustDueBy, rustDue}
 use Rattle.admission.proofs.Samples.{samples-test-never-fires}
-use Rattle.admission.proofs.Accepted.{shape, readable-test-never-fires}
+use Rattle.admission.proofs.Accepted.{readable-test-never-fires}
 
 -- ---- a pixel
 
@@ -65,7 +65,7 @@ module _ (P : ℕ → Prims) (allowed : Allowed (P 4)) (s : Set) (th : Threshold
   pub extra-never-fires : rustVerdictBy P s th f nine row col isMax ≡ verdictBy P s th f nine row col isMax
   unfolding rustVerdictBy verdictBy
   extra-never-fires =
-      let e = shape P allowed s th f nine row col isMax in
+      let e = ownShapeBy (P 4) s nine in
       let sigma = sigmaOf e isMax in
       let peak = peakOf e isMax in
       let band = bandBy (P 4) (s .sigmas) sigma in

@@ -2,7 +2,6 @@
 use Prim.Native.Nat.{ℕ, zero, suc, _+_, _-_, _*_}
 use mathlib.Core.Bool.{Bool, true, false, cond, _&&_}
 use mathlib.Core.List.{List, [], _++_}
-use lib.ListN.{getD}
 use lib.Ieee.{Float}
 use Rattle.tables.specs.declared.Set.{Set}
 use Rattle.tables.specs.declared.Thresholds.{Thresholds}
@@ -10,6 +9,7 @@ use Rattle.fit.specs.Cubic.{_at_}
 use Rattle.fit.specs.Prims.{Prims, ours}
 use Rattle.fit.specs.Envelope.{shapeBy}
 use Rattle.fit.specs.Band.{bandBy}
+use Rattle.fit.specs.declared.Envelope.{Envelope}
 use Rattle.refine.specs.Refine.{refineBy}
 use Rattle.refine.specs.declared.Refined.{Refined}
 use Rattle.refine.specs.declared.Refined.the-variants.{Accepted, Rejected}
@@ -19,10 +19,15 @@ use Rattle.pixel.specs.declared.Verdict.{Verdict}
 use Rattle.pixel.specs.declared.Verdict.the-variants.{Listed, Nothing}
 use Rattle.pixel.specs.Gate.{sigmaOf, peakOf, gateBy}
 use Rattle.pixel.specs.Ring.{ringBy}
-use Rattle.pixel.specs.Verdict.{cubicsOf, anchorOf, recordOf}
+use Rattle.pixel.specs.Verdict.{anchorOf, recordOf}
+use Rattle.pixel.specs.Rules.{cubicsAt, ownSamples, ownCubic}
 use Rattle.alp.specs.Level.{Maps, nineAt}
 use Rattle.alp.specs.Due.{listed}
 use Rattle.zeros.specs.Choices.{Choices, allOurs}
+
+-- the envelope of a pixel's own samples, by a choice of zeros
+abbrev pub ownShapeBy : Prims → Set → List (List Float) → Envelope
+ownShapeBy p s nine = shapeBy p (ownCubic s nine) (s .sigmas) (ownSamples nine at 0) (ownSamples nine at 3)
 
 -- an accepted spot's record is listed: it is not asked whether the join accepts it
 unfoldable pub keptOf : List Float → ℕ → Refined → Verdict
@@ -32,13 +37,13 @@ keptOf l key Rejected = Nothing
 -- The verdict as verdictBy has it, but it is not asked whether all samples are finite: the pixel's own gates pass, its peak beats the eight neighbours, and the refinement accepts.
 unfoldable pub rustVerdictBy : (ℕ → Prims) → Set → Thresholds → Frame → List (List Float) → ℕ → ℕ → Bool → Verdict
 rustVerdictBy P s th f nine row col isMax =
-    let k = cubicsOf (s .scale) nine in
-    let l = getD nine 4 [] in
-    let e = shapeBy (P 4) (getD k 4 []) (s .sigmas) (l at 0) (l at 3) in
+    let k = cubicsAt s nine in
+    let l = ownSamples nine in
+    let e = ownShapeBy (P 4) s nine in
     let sigma = sigmaOf e isMax in
     let peak = peakOf e isMax in
     cond
-    (gateBy (P 4) th l (getD k 4 []) sigma peak isMax && ringBy P k peak (bandBy (P 4) (s .sigmas) sigma) isMax)
+    (gateBy (P 4) th l (ownCubic s nine) sigma peak isMax && ringBy P k peak (bandBy (P 4) (s .sigmas) sigma) isMax)
     (keptOf l (row * f .cols + col) (refineBy (P 4) s (th .ratio) k (anchorOf row col sigma peak (f .octave) isMax)))
     Nothing
 
