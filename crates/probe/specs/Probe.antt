@@ -3,7 +3,7 @@ use Prim.Native.Nat.{ℕ, _+_}
 use mathlib.Core.List.{List, [], _∷_}
 use mathlib.Core.Bool.{Bool, cond}
 use lib.IntN.{pos}
-use lib.Ieee.{Float, binary32, ofInt}
+use lib.Ieee.{Float, binary32, nan, ofInt}
 use Rattle.float.specs.Num.{f0, f1}
 use Rattle.tables.specs.declared.Set.{Set}
 use Rattle.tables.specs.Refusal.{readSetOf}
@@ -16,6 +16,10 @@ use Rattle.refine.specs.declared.Spot.{Spot}
 use Rattle.refine.specs.declared.lend.Settled.{Settled}
 use Rattle.refine.specs.Refine.{indexOf, spatialOf}
 use Rattle.refine.specs.Lend.{settledOf}
+use Rattle.size.specs.declared.Statistic.{Statistic}
+use Rattle.size.specs.declared.Statistic.the-variants.{Value, Absent}
+use Rattle.size.specs.Profile.{statisticOf}
+use Rattle.size.specs.Correct.{geometryOf, betaOf, blendBetaOf, boundedOf, modelMoveOf}
 
 -- the set that a record holds; of zeros where the record is refused
 unfoldable pub held : List ℕ → Set
@@ -46,20 +50,20 @@ unfoldable pub levelOf : List ℕ → Float → ℕ
 levelOf b sigma = indexOf (held b .sigmas) sigma
 
 -- the first nine of the values; NaN for what is missing
-unfoldable pub nineOf : List Float → List Float
-nineOf v = v at 0 ∷ v at 1 ∷ v at 2 ∷ v at 3 ∷ v at 4 ∷ v at 5 ∷ v at 6 ∷ v at 7 ∷ v at 8 ∷ []
+unfoldable pub firstNine : List Float → List Float
+firstNine v = v at 0 ∷ v at 1 ∷ v at 2 ∷ v at 3 ∷ v at 4 ∷ v at 5 ∷ v at 6 ∷ v at 7 ∷ v at 8 ∷ []
 
 -- the i-th of w1 to w5
 unfoldable pub spatialPart : List ℕ → ℕ → List Float → ℕ → Float
-spatialPart b index v i = spatialOf (held b) index (nineOf v) at i
+spatialPart b index v i = spatialOf (held b) index (firstNine v) at i
 
 -- four of the numbers, from the i-th on; NaN for what is missing
 unfoldable pub fourOf : List Float → ℕ → List Float
 fourOf k i = k at i ∷ k at (i + 1) ∷ k at (i + 2) ∷ k at (i + 3) ∷ []
 
 -- nine cubics from 36 coefficients by position
-unfoldable pub cubicsOf : List Float → List (List Float)
-cubicsOf k =
+unfoldable pub nineFours : List Float → List (List Float)
+nineFours k =
     fourOf k 0 ∷ fourOf k 4 ∷ fourOf k 8 ∷ fourOf k 12 ∷ fourOf k 16 ∷ fourOf k 20 ∷ fourOf k 24 ∷ fourOf k 28 ∷ fourOf k 32 ∷ []
 
 -- a spot before its refinement: octave and scale index 0
@@ -73,4 +77,33 @@ leavesOf s =
 
 -- the i-th number that the refinement leaves of a spot
 unfoldable pub refinePart : List ℕ → List Float → Spot → Float → ℕ → Float
-refinePart b k spot ratio i = leavesOf (settledOf (held b) ratio (cubicsOf k) spot) at i
+refinePart b k spot ratio i = leavesOf (settledOf (held b) ratio (nineFours k) spot) at i
+
+-- a statistic's number, which is never NaN; NaN where it is absent
+unfoldable pub numberOf : Statistic → Float
+numberOf (Value x) = x
+numberOf Absent = nan
+
+-- the statistic with this number, or none
+unfoldable pub givenOf : Bool → Float → Statistic
+givenOf present x = cond present (Value x) Absent
+
+-- the profile statistic of four samples
+unfoldable pub statisticPart : List ℕ → List Float → Float
+statisticPart b l = numberOf (statisticOf (held b .sigmas) l)
+
+-- the part of a step that a statistic allows
+unfoldable pub betaPart : List ℕ → Bool → Float → Float
+betaPart b present x = betaOf (geometryOf (held b)) (givenOf present x)
+
+-- the part of a step that four samples allow
+unfoldable pub blendPart : List ℕ → List Float → Float
+blendPart b l = blendBetaOf (geometryOf (held b)) (held b .sigmas) l
+
+-- the part of the raw step, held to the cap
+unfoldable pub boundedPart : List ℕ → Float → Float → Float
+boundedPart b beta raw = boundedOf (geometryOf (held b)) beta raw
+
+-- the move that the model proposes
+unfoldable pub modelPart : List ℕ → Float → Float → Float → Float → Float → Float
+modelPart b beta a derivative curvature bounded = modelMoveOf (geometryOf (held b)) beta a derivative curvature bounded

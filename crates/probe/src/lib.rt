@@ -5,7 +5,7 @@ ghost use mathlib.Core.List.{[], _∷_};
 ghost use Rattle.fit.specs.Cubic.{hornerOf};
 ghost use Rattle.fit.specs.Band.{extremeOf};
 ghost use Rattle.fit.specs.Owns.{ownsOf};
-ghost use Rattle.probe.specs.Probe.{cubicOf, endOf, envelopePart, extremaPart, levelOf, spatialPart, freshOf, refinePart};
+ghost use Rattle.probe.specs.Probe.{cubicOf, endOf, envelopePart, extremaPart, levelOf, spatialPart, freshOf, refinePart, statisticPart, betaPart, blendPart, boundedPart, modelPart};
 
 mod parts;
 
@@ -131,4 +131,56 @@ pub extern "C" fn probe_refine(
     let left = refine::lend::refine_spot(parts::held_in(set), spot, &cubics, ratio);
     let list = parts::leaves(left);
     parts::number_at(&list, i)
+}
+
+#[no_mangle]
+pub extern "C" fn probe_statistic(set: &[u8], l0: f32, l1: f32, l2: f32, l3: f32) -> f32
+    ensures { λ r. ⌜ r ≡ statisticPart (now (set .entry)) (l0 ∷ l1 ∷ l2 ∷ l3 ∷ []) ⌝ }
+{
+    let held = parts::held_in(set);
+    let sigmas = held.sigmas;
+    let s = size::profile::profile_compatibility_statistic(sigmas, [l0, l1, l2, l3]);
+    parts::number_of(s)
+}
+
+#[no_mangle]
+pub extern "C" fn probe_beta(set: &[u8], present: bool, statistic: f32) -> f32
+    ensures { λ r. ⌜ r ≡ betaPart (now (set .entry)) present statistic ⌝ }
+{
+    let g = size::anchor::geometry_of(parts::held_in(set));
+    let s = parts::given(present, statistic);
+    size::anchor::profile_beta_from_statistic(g, s)
+}
+
+#[no_mangle]
+pub extern "C" fn probe_blend(set: &[u8], l0: f32, l1: f32, l2: f32, l3: f32) -> f32
+    ensures { λ r. ⌜ r ≡ blendPart (now (set .entry)) (l0 ∷ l1 ∷ l2 ∷ l3 ∷ []) ⌝ }
+{
+    let held = parts::held_in(set);
+    let sigmas = held.sigmas;
+    let g = size::anchor::geometry_of(held);
+    size::anchor::profile_blend_beta(g, sigmas, [l0, l1, l2, l3])
+}
+
+#[no_mangle]
+pub extern "C" fn probe_bounded(set: &[u8], beta: f32, raw: f32) -> f32
+    ensures { λ r. ⌜ r ≡ boundedPart (now (set .entry)) beta raw ⌝ }
+{
+    let g = size::anchor::geometry_of(parts::held_in(set));
+    size::anchor::profile_bounded_move(g, beta, raw)
+}
+
+#[no_mangle]
+pub extern "C" fn probe_model(
+    set: &[u8],
+    beta: f32,
+    a: f32,
+    derivative: f32,
+    curvature: f32,
+    bounded: f32,
+) -> f32
+    ensures { λ r. ⌜ r ≡ modelPart (now (set .entry)) beta a derivative curvature bounded ⌝ }
+{
+    let g = size::anchor::geometry_of(parts::held_in(set));
+    size::anchor::profile_model_move(g, beta, a, derivative, curvature, bounded)
 }

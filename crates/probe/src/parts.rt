@@ -5,10 +5,11 @@ ghost use Prim.Native.Nat.{_≤_};
 ghost use lib.IntN.{pos};
 ghost use lib.Ieee.{binary32, ofInt};
 ghost use Rattle.fit.specs.Cubic.{_at_, coeffsOf};
-ghost use Rattle.probe.specs.Probe.{held, partsOf, nineOf, fourOf, cubicsOf, freshOf, leavesOf};
+ghost use Rattle.probe.specs.Probe.{held, partsOf, firstNine, fourOf, nineFours, freshOf, leavesOf, numberOf, givenOf};
 use fit::Envelope;
 use refine::Spot;
 use refine::lend::Settled;
+use size::Statistic;
 use tables::Set;
 
 // The set that a record holds; of zeros where the record is refused.
@@ -52,7 +53,7 @@ pub fn parts_of(e: Envelope) -> [f32; 4]
 
 // The first nine of the values.
 pub fn nine(values: &[f32]) -> [f32; 9]
-    ensures { λ r. ⌜ r ≡ nineOf (now (values .entry)) ⌝ }
+    ensures { λ r. ⌜ r ≡ firstNine (now (values .entry)) ⌝ }
 {
     [
         number_at(values, 0),
@@ -82,7 +83,7 @@ fn four(k: &[f32], i: usize) -> [f32; 4]
 
 // Nine cubics from 36 coefficients by position.
 pub fn cubics(k: &[f32]) -> [[f32; 4]; 9]
-    ensures { λ r. ⌜ r ≡ cubicsOf (now (k .entry)) ⌝ }
+    ensures { λ r. ⌜ r ≡ nineFours (now (k .entry)) ⌝ }
 {
     [
         four(k, 0),
@@ -132,4 +133,25 @@ pub fn leaves(left: Settled) -> [f32; 6]
         spot.peak,
         float_of(spot.index),
     ]
+}
+
+// A statistic's number; NaN where it is absent.
+pub fn number_of(s: Statistic) -> f32
+    ensures { λ r. ⌜ r ≡ numberOf s ⌝ }
+{
+    match s {
+        Statistic::Value(x) => x,
+        Statistic::Absent => 0.0 / 0.0,
+    }
+}
+
+// The statistic with this number, or none.
+pub fn given(present: bool, x: f32) -> Statistic
+    ensures { λ r. ⌜ r ≡ givenOf present x ⌝ }
+{
+    if present {
+        Statistic::Value(x)
+    } else {
+        Statistic::Absent
+    }
 }

@@ -10,7 +10,7 @@ use fit::scale_fit::curvature;
 use tables::Set;
 
 // The set's geometry numbers by name.
-fn geometry_of(set: Set) -> Geometry
+pub fn geometry_of(set: Set) -> Geometry
     ensures { λ r. ⌜ r ≡ geometryOf set ⌝ }
 {
     Geometry {

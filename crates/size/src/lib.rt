@@ -7,7 +7,7 @@ use tables::Set;
 
 pub mod anchor;
 mod four;
-mod profile;
+pub mod profile;
 
 // The profile statistic: a number or its absence.
 pub enum Statistic {

@@ -1,5 +1,5 @@
 -- `parts::cubics` meets its contract.
-use Rattle.probe.specs.Probe.{cubicsOf}
+use Rattle.probe.specs.Probe.{nineFours}
 use borrow.Author.Needs.{needs}
 use Rattle.probe.proofs.parts.cubics.Statement.{statement}
 use Rattle.probe.proofs.parts.cubics.Tie as tie
@@ -32,7 +32,7 @@ four-requires-9 : tie.Need-four-requires-9
 four-requires-9 c κs = search needs
 
 returns : tie.Need-returns
-unfolding cubicsOf
+unfolding nineFours
 returns c = cc
 
 pub cubics-spec : {M : Type 1} → statement M

@@ -1,5 +1,5 @@
 -- `parts::nine` meets its contract.
-use Rattle.probe.specs.Probe.{nineOf}
+use Rattle.probe.specs.Probe.{firstNine}
 use borrow.Author.Needs.{needs}
 use Rattle.probe.proofs.parts.nine.Statement.{statement}
 use Rattle.probe.proofs.parts.nine.Tie as tie
@@ -32,7 +32,7 @@ number-at-requires-9 : tie.Need-number-at-requires-9
 number-at-requires-9 c κs = search needs
 
 returns : tie.Need-returns
-unfolding nineOf
+unfolding firstNine
 returns c = cc
 
 pub nine-spec : {M : Type 1} → statement M
