@@ -12,12 +12,13 @@ const LONGEST: usize = 4096;
 
 /// The archive's octave count against document 01's rule and the published function, for every shortest side to one past the longest.
 pub fn octaves() -> bool {
+    let mut archive = Archive::default();
     let mut fault = None;
     for side in 0..=LONGEST + 1 {
         for (rows, cols) in [(side, side), (side, LONGEST + 7), (LONGEST + 7, side)] {
             let sound = judge::octave_count_rule(rows, cols);
             let published = judge::octave_count_published(rows, cols);
-            let given = Archive.octave_count(rows, cols);
+            let given = archive.octave_count(rows, cols);
             if given != Some(sound) || published != sound {
                 let words =
                     || format!("{rows} by {cols}: rule {sound}, Rust {published}, given {given:?}");
@@ -35,7 +36,7 @@ pub fn octaves() -> bool {
 /// `count` corrections, half of them with steps past the stationary point.
 pub fn corrections(seed: u64, count: usize) -> bool {
     let begun = Instant::now();
-    let (mut judge, mut archive) = (Judge::sound(), Archive);
+    let (mut judge, mut archive) = (Judge::sound(), Archive::default());
     let (mut sizes, mut fault) = (0, None);
     for number in 0..count {
         let family = ["correct", "overshoot"][number % 2];

@@ -8,6 +8,8 @@ mod plan;
 #[cfg(feature = "probe")]
 mod probed;
 mod search;
+#[cfg(feature = "probe")]
+mod steps;
 mod tally;
 
 use cases::{Knob, expand, turn};
@@ -24,6 +26,7 @@ const USE: &str = "use: compare own [SEED [TIMES]]
      compare run SEED TIMES PROGRAM [ARGUMENTS]
      compare archive SEED TIMES               (built with the feature `archive`; 2,000,000 corrections a time beside the families)
      compare probe SEED CASES_A_FUNCTION      (built with the feature `probe`)
+     compare steps SEED                       (built with the feature `probe`)
      compare one FAMILY SEED NUMBER [PLACE VALUE_BITS] [-- PROGRAM [ARGUMENTS]]
      compare widest SEED                      (the archive too where it is built in)
      compare store FILE [SEED]
@@ -51,6 +54,8 @@ fn main() -> ExitCode {
         Some("archive") => archive(number(1, SEED), number(2, 1) as usize),
         #[cfg(feature = "probe")]
         Some("probe") if words.len() > 2 => probed::run(number(1, SEED), number(2, 1) as usize),
+        #[cfg(feature = "probe")]
+        Some("steps") if words.len() > 1 => steps::run(number(1, SEED)),
         Some("one") if words.len() > 3 => one(&words[1..]),
         Some("widest") if words.len() > 1 => widest(number(1, SEED)),
         Some("store") if words.len() > 1 => store(words[1], number(2, SEED)),
@@ -154,7 +159,7 @@ fn run(seed: u64, times: usize, subject: &mut dyn Subject) -> bool {
 /// The archive against the judge: the families, the octave count at every side, and corrections by the million.
 #[cfg(feature = "archive")]
 fn archive(seed: u64, times: usize) -> bool {
-    run(seed, times, &mut subject::archive::Archive)
+    run(seed, times, &mut subject::archive::Archive::default())
         & archived::octaves()
         & archived::corrections(seed, 2_000_000 * times)
 }
@@ -227,7 +232,7 @@ fn widest(seed: u64) -> bool {
         own::told(name, fault, &seen)
     };
     #[cfg(feature = "archive")]
-    let archive = against("widest-archive", &mut subject::archive::Archive);
+    let archive = against("widest-archive", &mut subject::archive::Archive::default());
     #[cfg(not(feature = "archive"))]
     let archive = true;
     let mut stream = Judge::sound();

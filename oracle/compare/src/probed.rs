@@ -6,7 +6,7 @@ use cases::words::FUNCTIONS;
 use cases::{Case, expand};
 use std::collections::BTreeMap;
 use std::time::{Duration, Instant};
-use subject::probe::{self, Probe};
+use subject::probe::Probe;
 use subject::{answer, difference};
 
 /// What was seen of one function.
@@ -18,25 +18,24 @@ struct Seen {
     first: Option<String>,
 }
 
-/// So many cases of the family `inner` for each function, and as many over all of each family `turning`, `cancelling`, `inflected`.
+/// The families of inner functions beside `inner`.
+const FAMILIES: [&str; 4] = ["turning", "cancelling", "inflected", "floats"];
+
+/// So many cases of the family `inner` for each function, and as many over all of each of `FAMILIES`.
 pub fn run(seed: u64, count: usize) -> bool {
     let mut all = BTreeMap::new();
-    let offered = |place: &usize| probe::FUNCTIONS.contains(&FUNCTIONS[*place]);
-    for place in (0..FUNCTIONS.len()).filter(offered) {
-        for round in 0..count {
-            let number = FUNCTIONS.len() * round + place;
-            let case = || expand("inner", seed, number);
-            one(&format!("inner {seed} {number}"), case, &mut all);
-        }
+    for number in 0..FUNCTIONS.len() * count {
+        let case = || expand("inner", seed, number);
+        one(&format!("inner {seed} {number}"), case, &mut all);
     }
     for number in 0..count {
-        for family in ["turning", "cancelling", "inflected"] {
+        for family in FAMILIES {
             let case = || expand(family, seed, number);
             one(&format!("{family} {seed} {number}"), case, &mut all);
         }
     }
     let mut sound = true;
-    for function in probe::FUNCTIONS {
+    for function in FUNCTIONS {
         let seen: Seen = all.remove(function).unwrap_or_default();
         let seconds = seen.time.as_secs_f64();
         let line = format!(

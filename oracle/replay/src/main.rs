@@ -1,19 +1,29 @@
-//! Replays the stored list against a list program or the archive; the published text is not needed.
+//! Replays the stored list against a list program or an archive; the published text is not needed.
 
 use std::process::ExitCode;
 use std::time::Instant;
 use subject::Subject;
+use subject::piped::Piped;
 use subject::process::Process;
 use subject::stored::{read, replay};
 
 const USE: &str = "use: replay STORED_LIST PROGRAM [ARGUMENTS]
-     replay STORED_LIST --archive      (built with the feature `archive`)";
+     replay STORED_LIST --archive                          (built with the feature `archive`)
+     replay STORED_LIST --inner                            (built with the feature `probe`)
+     replay STORED_LIST --answerer PROGRAM [ARGUMENTS]     (the answerer of another processor's archive)";
 
 /// The subject that the words name.
 fn named(command: Vec<String>) -> Box<dyn Subject> {
     #[cfg(feature = "archive")]
     if command[0] == "--archive" {
-        return Box::new(subject::archive::Archive);
+        return Box::new(subject::archive::Archive::default());
+    }
+    #[cfg(feature = "probe")]
+    if command[0] == "--inner" {
+        return Box::new(subject::probe::Probe);
+    }
+    if command[0] == "--answerer" && command.len() > 1 {
+        return Box::new(Piped::new(&command[1..]));
     }
     Box::new(Process::new(command))
 }

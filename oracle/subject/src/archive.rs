@@ -1,11 +1,20 @@
-//! The detector as its archive exports it, through the Rust wrapper.
+//! The detector as its archive exports it, through the Rust wrapper. Every buffer is lent beside an untouchable page: each call is made twice, with
+//! that page before every buffer and then behind it, and both must answer and leave the same.
 
+use crate::guarded::{Room, Side};
 use crate::{Reply, Subject};
 use cases::{Scene, Set};
+use core::fmt::Debug;
 use uramsheg::{Map, Refusal, Thresholds};
 
 /// libalp_c.a, linked in.
-pub struct Archive;
+#[derive(Default)]
+pub struct Archive {
+    set: Room,
+    levels: [Room; 4],
+    list: Room,
+    out: Room,
+}
 
 fn reply(answer: Result<usize, Refusal>) -> Reply {
     match answer {
@@ -16,6 +25,28 @@ fn reply(answer: Result<usize, Refusal>) -> Reply {
             index: 0,
         },
     }
+}
+
+/// Calls with the page on either side; the call lends `out` and fills it with what is left there.
+fn both_sides<T: Copy, R: PartialEq + Debug>(
+    out: &mut [T],
+    mut call: impl FnMut(Side, &mut [T]) -> R,
+) -> R {
+    let mut other = out.to_vec();
+    let answers = [call(Side::Before, &mut other), call(Side::Behind, out)];
+    let [one, answer] = answers;
+    assert_eq!(one, answer, "the answer depends on where the buffers stand");
+    assert!(
+        bytes(&other) == bytes(out),
+        "what is written depends on where the buffers stand"
+    );
+    answer
+}
+
+/// The bytes of numbers.
+fn bytes<T: Copy>(numbers: &[T]) -> &[u8] {
+    // SAFETY: u8 and f32, of which alone it is asked, have no unused bytes.
+    unsafe { core::slice::from_raw_parts(numbers.as_ptr().cast(), size_of_val(numbers)) }
 }
 
 impl Subject for Archive {
@@ -32,18 +63,25 @@ impl Subject for Archive {
             low,
             high,
         };
-        let map = Map {
-            rows: scene.rows,
-            cols: scene.cols,
-            octave: scene.octave,
-            levels: [0, 1, 2, 3].map(|level| scene.levels[level].as_slice()),
-        };
-        Some(reply(uramsheg::detect(
-            &scene.set.record(),
-            thresholds,
-            map,
-            out,
-        )))
+        let record = scene.set.record();
+        Some(both_sides(out, |side, left| {
+            let set = self.set.lend(side, &record);
+            let mut levels = scene.levels.iter();
+            let levels = self.levels.each_mut().map(|room| {
+                let level = levels.next().map_or(&[][..], Vec::as_slice);
+                &*room.lend(side, level)
+            });
+            let map = Map {
+                rows: scene.rows,
+                cols: scene.cols,
+                octave: scene.octave,
+                levels,
+            };
+            let lent = self.out.lend(side, left);
+            let answer = uramsheg::detect(set, thresholds, map, lent);
+            left.copy_from_slice(lent);
+            reply(answer)
+        }))
     }
 
     fn join(
@@ -54,7 +92,15 @@ impl Subject for Archive {
         list: &[u8],
         out: &mut [u8],
     ) -> Option<Reply> {
-        Some(reply(uramsheg::join(&set.record(), rows, cols, list, out)))
+        let record = set.record();
+        Some(both_sides(out, |side, left| {
+            let set = self.set.lend(side, &record);
+            let list = self.list.lend(side, list);
+            let lent = self.out.lend(side, left);
+            let answer = uramsheg::join(set, rows, cols, list, lent);
+            left.copy_from_slice(lent);
+            reply(answer)
+        }))
     }
 
     fn correct(
@@ -64,7 +110,13 @@ impl Subject for Archive {
         sigma: f32,
         is_max: bool,
     ) -> Option<Result<f32, u32>> {
-        Some(uramsheg::correct(&set.record(), samples, sigma, is_max).map_err(Refusal::number))
+        let record = set.record();
+        let bits = both_sides::<u8, _>(&mut [], |side, _| {
+            let set = self.set.lend(side, &record);
+            let size = uramsheg::correct(set, samples, sigma, is_max);
+            size.map(f32::to_bits).map_err(Refusal::number)
+        });
+        Some(bits.map(f32::from_bits))
     }
 
     fn octave_count(&mut self, rows: usize, cols: usize) -> Option<usize> {
@@ -78,10 +130,19 @@ impl Subject for Archive {
         level: &[f32],
         out: &mut [f32],
     ) -> Option<Result<(usize, usize), u32>> {
-        Some(uramsheg::downsample(rows, cols, level, out).map_err(Refusal::number))
+        Some(both_sides(out, |side, left| {
+            let level = self.levels[0].lend(side, level);
+            let lent = self.out.lend(side, left);
+            let answer = uramsheg::downsample(rows, cols, level, lent);
+            left.copy_from_slice(lent);
+            answer.map_err(Refusal::number)
+        }))
     }
 
     fn read_set(&mut self, bytes: &[u8]) -> Option<Result<(), u32>> {
-        Some(uramsheg::check_set(bytes).map_err(Refusal::number))
+        Some(both_sides::<u8, _>(&mut [], |side, _| {
+            let set = self.set.lend(side, bytes);
+            uramsheg::check_set(set).map_err(Refusal::number)
+        }))
     }
 }

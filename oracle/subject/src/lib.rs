@@ -4,6 +4,9 @@ use cases::{Case, Scene, Set};
 
 #[cfg(feature = "archive")]
 pub mod archive;
+#[cfg(feature = "archive")]
+pub mod guarded;
+pub mod piped;
 #[cfg(feature = "probe")]
 pub mod probe;
 pub mod process;

@@ -1,7 +1,9 @@
-//! The proved inner functions, one number a call, as the archive of the crate `probe` exports them.
+//! The proved inner functions: those of the detector, one number a call, as the archive of the crate `probe` exports them, and the float helpers of
+//! `float_c`.
 
 use crate::Subject;
 use cases::Set;
+pub use uramsheg::float;
 
 /// A slice is passed as its start and its length.
 mod raw {
@@ -69,6 +71,33 @@ mod raw {
             is_max: bool,
             ratio: f32,
             i: usize,
+        ) -> f32;
+        pub fn probe_statistic(
+            set: *const u8,
+            set_length: usize,
+            l0: f32,
+            l1: f32,
+            l2: f32,
+            l3: f32,
+        ) -> f32;
+        pub fn probe_beta(set: *const u8, set_length: usize, present: bool, statistic: f32) -> f32;
+        pub fn probe_blend(
+            set: *const u8,
+            set_length: usize,
+            l0: f32,
+            l1: f32,
+            l2: f32,
+            l3: f32,
+        ) -> f32;
+        pub fn probe_bounded(set: *const u8, set_length: usize, beta: f32, raw: f32) -> f32;
+        pub fn probe_model(
+            set: *const u8,
+            set_length: usize,
+            beta: f32,
+            a: f32,
+            derivative: f32,
+            curvature: f32,
+            bounded: f32,
         ) -> f32;
     }
 }
@@ -154,22 +183,47 @@ pub fn probe_refine(set: &[u8], cubics: &[f32], spot: Fresh, ratio: f32, i: usiz
     }
 }
 
-/// The inner functions that the archive has, by the names of the cases.
-pub const FUNCTIONS: [&str; 11] = [
-    "compute_poly_coeffs",
-    "geometry_poly_coeffs",
-    "horner",
-    "neighbor_scale_band",
-    "band_extreme",
-    "owns_scale_extremum",
-    "scale_envelope",
-    "polynomial_extrema",
-    "get_q_scale_index",
-    "fit_spatial_quadratic",
-    "refine_keypoint_2d",
-];
+/// The profile statistic of four samples, where there is one.
+pub fn probe_statistic(set: &[u8], samples: [f32; 4]) -> Option<f32> {
+    let [l0, l1, l2, l3] = samples;
+    let statistic = unsafe { raw::probe_statistic(set.as_ptr(), set.len(), l0, l1, l2, l3) };
+    (!statistic.is_nan()).then_some(statistic)
+}
 
-/// The archive as a subject: it offers the functions of `FUNCTIONS` alone.
+/// The part of a step that a statistic allows.
+pub fn probe_beta(set: &[u8], statistic: Option<f32>) -> f32 {
+    let (present, value) = (statistic.is_some(), statistic.unwrap_or(0.0));
+    unsafe { raw::probe_beta(set.as_ptr(), set.len(), present, value) }
+}
+
+/// The part of a step that four samples allow.
+pub fn probe_blend(set: &[u8], samples: [f32; 4]) -> f32 {
+    let [l0, l1, l2, l3] = samples;
+    unsafe { raw::probe_blend(set.as_ptr(), set.len(), l0, l1, l2, l3) }
+}
+
+/// The part of the raw step, held to the cap.
+pub fn probe_bounded(set: &[u8], beta: f32, raw_step: f32) -> f32 {
+    unsafe { raw::probe_bounded(set.as_ptr(), set.len(), beta, raw_step) }
+}
+
+/// The move that the model proposes, of beta, the cubic's leading coefficient, the derivative, the curvature and the bounded move.
+pub fn probe_model(set: &[u8], numbers: [f32; 5]) -> f32 {
+    let [beta, a, derivative, curvature, bounded] = numbers;
+    unsafe {
+        raw::probe_model(
+            set.as_ptr(),
+            set.len(),
+            beta,
+            a,
+            derivative,
+            curvature,
+            bounded,
+        )
+    }
+}
+
+/// The two archives as a subject: they offer every inner function.
 pub struct Probe;
 
 fn bit(value: bool) -> f32 {
@@ -186,29 +240,65 @@ impl Subject for Probe {
     }
 
     fn inner(&mut self, function: &str, set: &Set, words: &[f32]) -> Option<Vec<f32>> {
-        if !FUNCTIONS.contains(&function) {
-            return None;
-        }
         let set = &set.record();
-        let four: [f32; 4] = core::array::from_fn(|place| words.get(place).copied().unwrap_or(0.0));
-        let [a, b, c, d] = four;
-        Some(match function {
-            "compute_poly_coeffs" => each(4, |i| probe_cubic(set, false, four, i)),
-            "geometry_poly_coeffs" => each(4, |i| probe_cubic(set, true, four, i)),
-            "horner" => vec![probe_horner(a, b, c, d, words[4])],
-            "neighbor_scale_band" => each(2, |i| probe_band(set, a, i == 1)),
-            "band_extreme" => {
-                let is_max = words[6] == 1.0;
-                vec![probe_extreme(a, b, c, d, words[4], words[5], is_max)]
-            }
-            "owns_scale_extremum" => vec![bit(probe_owns(a, b, c, d, words[4] == 1.0))],
-            "scale_envelope" => each(4, |i| probe_envelope(set, four, i)),
-            "polynomial_extrema" => each(4, |i| probe_extrema(set, four, words[4], words[5], i)),
-            "get_q_scale_index" => vec![f32::from(probe_index(set, a))],
-            "fit_spatial_quadratic" => each(5, |i| probe_spatial(set, a as u8, &words[1..], i)),
-            _ => return refine(set, words),
-        })
+        helper(function, words)
+            .or_else(|| profile(function, set, words))
+            .or_else(|| fit(function, set, words))
     }
+}
+
+/// The first words, as many as are asked for.
+fn first<const N: usize>(words: &[f32]) -> [f32; N] {
+    core::array::from_fn(|place| words.get(place).copied().unwrap_or(0.0))
+}
+
+fn helper(function: &str, words: &[f32]) -> Option<Vec<f32>> {
+    let of_each = |helper: fn(f32) -> f32| words.iter().map(|&word| helper(word)).collect();
+    let [a, b, c] = first(words);
+    Some(match function {
+        "log2" => of_each(float::log2),
+        "exp" => of_each(float::exp),
+        "sqrt" => of_each(float::sqrt),
+        "abs" => of_each(float::abs),
+        "is_finite" => of_each(|word| bit(float::is_finite(word))),
+        "min" => vec![float::min(a, b)],
+        "max" => vec![float::max(a, b)],
+        "clamp" => vec![float::clamp(a, b, c)],
+        _ => return None,
+    })
+}
+
+fn profile(function: &str, set: &[u8], words: &[f32]) -> Option<Vec<f32>> {
+    let four = first(words);
+    Some(match function {
+        "profile_compatibility_statistic" => probe_statistic(set, four).into_iter().collect(),
+        "profile_beta_from_statistic" => vec![probe_beta(set, words.first().copied())],
+        "profile_blend_beta" => vec![probe_blend(set, four)],
+        "profile_bounded_move" => vec![probe_bounded(set, four[0], four[1])],
+        "profile_model_move" => vec![probe_model(set, first(words))],
+        _ => return None,
+    })
+}
+
+fn fit(function: &str, set: &[u8], words: &[f32]) -> Option<Vec<f32>> {
+    let four @ [a, b, c, d] = first(words);
+    Some(match function {
+        "compute_poly_coeffs" => each(4, |i| probe_cubic(set, false, four, i)),
+        "geometry_poly_coeffs" => each(4, |i| probe_cubic(set, true, four, i)),
+        "horner" => vec![probe_horner(a, b, c, d, words[4])],
+        "neighbor_scale_band" => each(2, |i| probe_band(set, a, i == 1)),
+        "band_extreme" => {
+            let is_max = words[6] == 1.0;
+            vec![probe_extreme(a, b, c, d, words[4], words[5], is_max)]
+        }
+        "owns_scale_extremum" => vec![bit(probe_owns(a, b, c, d, words[4] == 1.0))],
+        "scale_envelope" => each(4, |i| probe_envelope(set, four, i)),
+        "polynomial_extrema" => each(4, |i| probe_extrema(set, four, words[4], words[5], i)),
+        "get_q_scale_index" => vec![f32::from(probe_index(set, a))],
+        "fit_spatial_quadratic" => each(5, |i| probe_spatial(set, a as u8, &words[1..], i)),
+        "refine_keypoint_2d" => return refine(set, words),
+        _ => return None,
+    })
 }
 
 /// x, y, sigma, peak, scale index, polarity, ratio limit, 36 coefficients; only a scale index of 0 is offered, and the polarity is handed back.

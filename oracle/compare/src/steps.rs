@@ -1,0 +1,64 @@
+//! log2 and exp of the archive against the step lists, bit for bit.
+
+use crate::own::told;
+use judge::steps;
+use std::time::Instant;
+use subject::probe::float;
+
+/// Patterns from one to the next of the walk over all of them.
+const STRIDE: u32 = 1 << 8;
+/// Patterns on each side of an edge.
+const NEAR: u32 = 1 << 11;
+
+/// Where an exponent begins, of either sign: zeros, subnormals, powers of two, infinities and NaN among them.
+fn exponents() -> impl Iterator<Item = u32> {
+    (0..512).map(|field| field << 23)
+}
+
+/// The ends of exp's range, and the multiples of ln 2, where its exponent turns.
+fn turns() -> impl Iterator<Item = u32> {
+    let multiples = (-152..=130).map(|n| (f64::from(n) * core::f64::consts::LN_2) as f32);
+    [89.0, -104.0]
+        .into_iter()
+        .chain(multiples)
+        .map(f32::to_bits)
+}
+
+/// Every pattern of the walk, from `first` on, and all near an edge.
+fn patterns(first: u32) -> impl Iterator<Item = u32> {
+    let walk = (0..=u32::MAX / STRIDE).map(move |step| STRIDE * step + first % STRIDE);
+    let near =
+        |edge: u32| (0..=2 * NEAR).map(move |place| edge.wrapping_sub(NEAR).wrapping_add(place));
+    walk.chain(exponents().chain(turns()).flat_map(near))
+}
+
+/// One function over the patterns; any NaN equals any other.
+fn same(name: &str, first: u32, ours: fn(f32) -> f32, sound: fn(f32) -> f32) -> bool {
+    let begun = Instant::now();
+    let plain = |value: f32| {
+        if value.is_nan() {
+            u32::MAX
+        } else {
+            value.to_bits()
+        }
+    };
+    let (mut count, mut differing, mut fault) = (0, 0, None);
+    for bits in patterns(first) {
+        let value = f32::from_bits(bits);
+        let (given, due) = (plain(ours(value)), plain(sound(value)));
+        count += 1;
+        if given != due {
+            differing += 1;
+            fault.get_or_insert_with(|| format!("{bits:08x}: {due:08x} due, {given:08x} given"));
+        }
+    }
+    let seconds = begun.elapsed().as_secs_f64();
+    let seen = format!("{count} patterns, {differing} differ, {seconds:.1} s");
+    told(&format!("steps-{name}"), fault, &seen)
+}
+
+/// log2 and exp over every 256th pattern and all near an edge; the seed says where the walk begins.
+pub fn run(seed: u64) -> bool {
+    let first = seed as u32;
+    same("log2", first, float::log2, steps::log2) & same("exp", first, float::exp, steps::exp)
+}

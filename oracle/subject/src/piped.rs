@@ -1,0 +1,188 @@
+//! The detector's archive of another processor: `answerer` linked with it, run as a process that answers call by call over a pipe.
+
+use crate::{Reply, Subject};
+use cases::{Scene, Set};
+use std::io::{BufReader, BufWriter, Read, Write};
+use std::process::{Child, ChildStdin, ChildStdout, Command, Stdio};
+
+/// The process and both ends of its pipes.
+pub struct Piped {
+    name: String,
+    child: Child,
+    asked: BufWriter<ChildStdin>,
+    answered: BufReader<ChildStdout>,
+}
+
+impl Piped {
+    /// Starts a program with its arguments.
+    pub fn new(command: &[String]) -> Piped {
+        let name = command.join(" ");
+        let mut child = Command::new(&command[0])
+            .args(&command[1..])
+            .stdin(Stdio::piped())
+            .stdout(Stdio::piped())
+            .spawn()
+            .unwrap_or_else(|error| panic!("{name}: {error}"));
+        let pipes = child.stdin.take().zip(child.stdout.take());
+        let (asked, answered) = pipes.expect("both are piped");
+        Piped {
+            name,
+            child,
+            asked: BufWriter::new(asked),
+            answered: BufReader::new(answered),
+        }
+    }
+
+    fn send(&mut self, bytes: &[u8]) {
+        let sent = self.asked.write_all(bytes);
+        sent.unwrap_or_else(|error| panic!("{}: {error}", self.name));
+    }
+
+    fn numbers(&mut self, numbers: &[usize]) {
+        for &number in numbers {
+            self.send(&(number as u64).to_le_bytes());
+        }
+    }
+
+    fn patterns(&mut self, values: &[f32]) {
+        for value in values {
+            self.numbers(&[value.to_bits() as usize]);
+        }
+    }
+
+    fn bytes(&mut self, bytes: &[u8]) {
+        self.numbers(&[bytes.len()]);
+        self.send(bytes);
+    }
+
+    fn floats(&mut self, values: &[f32]) {
+        let bytes: Vec<u8> = values
+            .iter()
+            .flat_map(|value| value.to_le_bytes())
+            .collect();
+        self.numbers(&[values.len()]);
+        self.send(&bytes);
+    }
+
+    fn read(&mut self, bytes: &mut [u8]) {
+        let read = self.answered.read_exact(bytes);
+        read.unwrap_or_else(|error| panic!("{}: {error}", self.name));
+    }
+
+    /// The next number of the answer.
+    fn next(&mut self) -> usize {
+        let flushed = self.asked.flush();
+        flushed.unwrap_or_else(|error| panic!("{}: {error}", self.name));
+        let mut bytes = [0; 8];
+        self.read(&mut bytes);
+        u64::from_le_bytes(bytes) as usize
+    }
+
+    /// A refusal's number, its value, and the buffer.
+    fn reply(&mut self, out: &mut [u8]) -> Reply {
+        let (number, value) = (self.next() as u32, self.next());
+        self.read(out);
+        match number {
+            0 => Reply::Done(value),
+            _ => Reply::Refused {
+                number,
+                index: value,
+            },
+        }
+    }
+
+    /// The answer, or the refusal's number that comes before it.
+    fn answer<T>(&mut self, answer: impl FnOnce(&mut Piped) -> T) -> Result<T, u32> {
+        let number = self.next() as u32;
+        let answer = answer(self);
+        if number == 0 { Ok(answer) } else { Err(number) }
+    }
+}
+
+impl Drop for Piped {
+    fn drop(&mut self) {
+        let _ = self.child.kill();
+        let _ = self.child.wait();
+    }
+}
+
+impl Subject for Piped {
+    fn name(&self) -> String {
+        self.name.clone()
+    }
+
+    fn detect(&mut self, scene: &Scene, out: &mut [u8]) -> Option<Reply> {
+        self.send(b"d");
+        self.bytes(&scene.set.record());
+        self.patterns(&scene.thresholds);
+        self.numbers(&[scene.rows, scene.cols, scene.octave]);
+        scene.levels.iter().for_each(|level| self.floats(level));
+        self.bytes(out);
+        Some(self.reply(out))
+    }
+
+    fn join(
+        &mut self,
+        set: &Set,
+        rows: usize,
+        cols: usize,
+        list: &[u8],
+        out: &mut [u8],
+    ) -> Option<Reply> {
+        self.send(b"j");
+        self.bytes(&set.record());
+        self.numbers(&[rows, cols]);
+        self.bytes(list);
+        self.bytes(out);
+        Some(self.reply(out))
+    }
+
+    fn correct(
+        &mut self,
+        set: &Set,
+        samples: [f32; 4],
+        sigma: f32,
+        is_max: bool,
+    ) -> Option<Result<f32, u32>> {
+        self.send(b"c");
+        self.bytes(&set.record());
+        self.patterns(&samples);
+        self.patterns(&[sigma]);
+        self.numbers(&[usize::from(is_max)]);
+        Some(self.answer(|piped| f32::from_bits(piped.next() as u32)))
+    }
+
+    fn octave_count(&mut self, rows: usize, cols: usize) -> Option<usize> {
+        self.send(b"o");
+        self.numbers(&[rows, cols]);
+        Some(self.next())
+    }
+
+    fn downsample(
+        &mut self,
+        rows: usize,
+        cols: usize,
+        level: &[f32],
+        out: &mut [f32],
+    ) -> Option<Result<(usize, usize), u32>> {
+        self.send(b"h");
+        self.numbers(&[rows, cols]);
+        self.floats(level);
+        self.floats(out);
+        Some(self.answer(|piped| {
+            let half = (piped.next(), piped.next());
+            let mut bytes = vec![0; 4 * out.len()];
+            piped.read(&mut bytes);
+            for (value, pattern) in out.iter_mut().zip(bytes.as_chunks().0) {
+                *value = f32::from_le_bytes(*pattern);
+            }
+            half
+        }))
+    }
+
+    fn read_set(&mut self, bytes: &[u8]) -> Option<Result<(), u32>> {
+        self.send(b"s");
+        self.bytes(bytes);
+        Some(self.answer(|_| ()))
+    }
+}
