@@ -1,0 +1,181 @@
+/* Answers calls of the detector's archive over a pipe, so that the archive of one processor can be compared on another.
+ *
+ * A request is a letter, then numbers and buffers as subject/src/piped.rs sends them: a number is 8 bytes, little-endian, a float its pattern as a
+ * number, a buffer its length in elements and then its elements, floats of 4 bytes. An answer is numbers, and the buffer that was written.
+ * It ends with its standard input. */
+#include <stdio.h>
+#include <stdlib.h>
+#include <string.h>
+
+#include "uramsheg.h"
+
+static void stop(const char *why) {
+    fprintf(stderr, "answerer: %s\n", why);
+    exit(2);
+}
+
+static void take(void *bytes, size_t count) {
+    if (fread(bytes, 1, count, stdin) != count) stop("the request is cut short");
+}
+
+static void give(const void *bytes, size_t count) {
+    if (fwrite(bytes, 1, count, stdout) != count) stop("the answer can't be written");
+}
+
+static uint64_t number(void) {
+    uint8_t bytes[8];
+    uint64_t value = 0;
+    take(bytes, sizeof bytes);
+    for (int i = 7; i >= 0; i--) value = value << 8 | bytes[i];
+    return value;
+}
+
+static void answer(uint64_t value) {
+    uint8_t bytes[8];
+    for (int i = 0; i < 8; i++) bytes[i] = (uint8_t)(value >> 8 * i);
+    give(bytes, sizeof bytes);
+}
+
+static float of_pattern(uint32_t pattern) {
+    float value;
+    memcpy(&value, &pattern, sizeof value);
+    return value;
+}
+
+static uint32_t pattern_of(float value) {
+    uint32_t pattern;
+    memcpy(&pattern, &value, sizeof pattern);
+    return pattern;
+}
+
+static float real(void) { return of_pattern((uint32_t)number()); }
+
+typedef struct {
+    uint8_t *bytes;
+    size_t length;
+} Bytes;
+
+typedef struct {
+    float *values;
+    size_t length;
+} Reals;
+
+/* A buffer of exactly its own size. */
+static void *room(size_t size) {
+    void *made = malloc(size);
+    if (made == NULL && size != 0) stop("no memory");
+    return made;
+}
+
+static Bytes bytes(void) {
+    Bytes taken;
+    taken.length = number();
+    taken.bytes = room(taken.length);
+    take(taken.bytes, taken.length);
+    return taken;
+}
+
+static Reals reals(void) {
+    Reals taken;
+    taken.length = number();
+    uint8_t *wire = room(4 * taken.length);
+    take(wire, 4 * taken.length);
+    taken.values = room(4 * taken.length);
+    for (size_t i = 0; i < taken.length; i++) {
+        const uint8_t *at = wire + 4 * i;
+        taken.values[i] = of_pattern((uint32_t)at[0] | (uint32_t)at[1] << 8 | (uint32_t)at[2] << 16 | (uint32_t)at[3] << 24);
+    }
+    free(wire);
+    return taken;
+}
+
+static void give_reals(Reals given) {
+    for (size_t i = 0; i < given.length; i++) {
+        uint32_t pattern = pattern_of(given.values[i]);
+        uint8_t wire[4] = {(uint8_t)pattern, (uint8_t)(pattern >> 8), (uint8_t)(pattern >> 16), (uint8_t)(pattern >> 24)};
+        give(wire, sizeof wire);
+    }
+}
+
+static void detect(void) {
+    Bytes set = bytes();
+    float thresholds[5];
+    for (int i = 0; i < 5; i++) thresholds[i] = real();
+    size_t rows = number(), cols = number(), octave = number();
+    Reals l[4];
+    for (int i = 0; i < 4; i++) l[i] = reals();
+    Bytes out = bytes();
+    uint64_t value = 0;
+    answer(uramsheg_detect(set.bytes, set.length, thresholds[0], thresholds[1], thresholds[2], thresholds[3], thresholds[4], rows, cols, octave,
+                           l[0].values, l[0].length, l[1].values, l[1].length, l[2].values, l[2].length, l[3].values, l[3].length, out.bytes,
+                           out.length, &value));
+    answer(value);
+    give(out.bytes, out.length);
+    for (int i = 0; i < 4; i++) free(l[i].values);
+    free(set.bytes);
+    free(out.bytes);
+}
+
+static void join(void) {
+    Bytes set = bytes();
+    size_t rows = number(), cols = number();
+    Bytes list = bytes(), out = bytes();
+    uint64_t value = 0;
+    answer(uramsheg_join(set.bytes, set.length, rows, cols, list.bytes, list.length, out.bytes, out.length, &value));
+    answer(value);
+    give(out.bytes, out.length);
+    free(set.bytes);
+    free(list.bytes);
+    free(out.bytes);
+}
+
+static void correct(void) {
+    Bytes set = bytes();
+    float samples[4];
+    for (int i = 0; i < 4; i++) samples[i] = real();
+    float sigma = real(), corrected = 0;
+    bool is_max = number() == 1;
+    answer(uramsheg_correct(set.bytes, set.length, samples[0], samples[1], samples[2], samples[3], sigma, is_max, &corrected));
+    answer(pattern_of(corrected));
+    free(set.bytes);
+}
+
+static void octave_count(void) {
+    size_t rows = number(), cols = number();
+    answer(uramsheg_octave_count(rows, cols));
+}
+
+static void downsample(void) {
+    size_t rows = number(), cols = number();
+    Reals level = reals(), out = reals();
+    uint64_t half_rows = 0, half_cols = 0;
+    answer(uramsheg_downsample(rows, cols, level.values, level.length, out.values, out.length, &half_rows, &half_cols));
+    answer(half_rows);
+    answer(half_cols);
+    give_reals(out);
+    free(level.values);
+    free(out.values);
+}
+
+static void set_check(void) {
+    Bytes set = bytes();
+    answer(uramsheg_set_check(set.bytes, set.length));
+    free(set.bytes);
+}
+
+int main(void) {
+    int letter;
+    while ((letter = getchar()) != EOF) {
+        switch (letter) {
+        case 'd': detect(); break;
+        case 'j': join(); break;
+        case 'c': correct(); break;
+        case 'o': octave_count(); break;
+        case 'h': downsample(); break;
+        case 's': set_check(); break;
+        default: stop("no such request");
+        }
+        fflush(stdout);
+    }
+    return 0;
+}
