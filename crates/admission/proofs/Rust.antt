@@ -13,7 +13,7 @@ use Rattle.tables.specs.declared.Set.{Set}
 use Rattle.tables.specs.declared.Thresholds.{Thresholds}
 use Rattle.tables.specs.declared.Refusal.the-variants.{Size, Octave}
 use Rattle.fit.specs.Near.{same}
-use Rattle.fit.specs.Prims.{Prims, Allowed}
+use Rattle.fit.specs.Prims.{Prims, Allowed, ours}
 use Rattle.fit.specs.Band.{bandBy}
 use Rattle.refine.specs.Refine.{refineBy}
 use Rattle.refine.specs.declared.Spot.{Spot}
@@ -25,7 +25,7 @@ use Rattle.pixel.specs.declared.Verdict.{Verdict}
 use Rattle.pixel.specs.declared.Verdict.the-variants.{Nothing}
 use Rattle.pixel.specs.Gate.{sigmaOf, peakOf, gateBy}
 use Rattle.pixel.specs.Ring.{ringBy}
-use Rattle.pixel.specs.Verdict.{wholeOf, anchorOf, recordOf, admitOf, verdictBy}
+use Rattle.pixel.specs.Verdict.{wholeOf, anchorOf, recordOf, admitOf, verdictBy, verdictOf}
 use Rattle.pixel.specs.Rules.{cubicsAt, ownSamples, ownCubic}
 use Rattle.alp.specs.Level.{Maps, mapsOf, samplesAt, nineAt, Within}
 use Rattle.alp.specs.Due.{due}
@@ -37,7 +37,7 @@ use Rattle.alp.proofs.RefusalsLaws.{found-none}
 use Rattle.zeros.specs.Choices.{Choices, AllAllowed, allOurs, judgeBy, pixelDueBy, rowDueBy, rowsDueBy, dueBy}
 use Rattle.zeros.specs.Alike.{RecordsNear}
 use Rattle.zeros.proofs.ListNear.{due-ours, due~}
-use Rattle.admission.specs.Rust.{ownShapeBy, keptOf, rustVerdictBy, rustJudgeBy, rustRowBy, rustRowsBy, rustDueBy, rustDue}
+use Rattle.admission.specs.Rust.{ownShapeBy, keptOf, rustVerdictBy, rustVerdictOf, rustJudgeBy, rustRowBy, rustRowsBy, rustDueBy, rustDue}
 use Rattle.admission.proofs.Samples.{samples-test-never-fires}
 use Rattle.admission.proofs.Accepted.{readable-test-never-fires}
 
@@ -61,10 +61,10 @@ third-test false false r x y z h = refl
 
 module _ (P : ℕ → Prims) (allowed : Allowed (P 4)) (s : Set) (th : Thresholds) (f : Frame) (nine : List (List Float)) (row col : ℕ) (isMax : Bool) (nine-long : length nine ≡ 9)
     (rows-most : f .rows ≤ 4096) (cols-most : f .cols ≤ 4096) (octave-most : f .octave ≤ 5) (inside : Within 4 f row col) where
-  -- On a judged pixel the test that document 01 adds refuses nothing, whatever the set, the thresholds and the choice of zeros: the verdict is the one by the Rust's own tests.
-  pub extra-never-fires : rustVerdictBy P s th f nine row col isMax ≡ verdictBy P s th f nine row col isMax
+  -- on a judged pixel the test that document 01 adds refuses nothing, whatever the set, the thresholds and the choice of zeros
+  pub extra-never-fires-by : rustVerdictBy P s th f nine row col isMax ≡ verdictBy P s th f nine row col isMax
   unfolding rustVerdictBy verdictBy
-  extra-never-fires =
+  extra-never-fires-by =
       let e = ownShapeBy (P 4) s nine in
       let sigma = sigmaOf e isMax in
       let peak = peakOf e isMax in
@@ -76,13 +76,22 @@ module _ (P : ℕ → Prims) (allowed : Allowed (P 4)) (s : Set) (th : Threshold
             (readable-test-never-fires P allowed s th f nine row col isMax nine-long rows-most cols-most octave-most inside band gates ring),
       ))
 
+-- this build's choices are allowed
+ours-allowed : Allowed ours
+ours-allowed = record { low = λ i a b. same; high = λ i a b. same; first = λ i. same }
+
+-- On a judged pixel, of a map of sides to 4,096 and an octave to 5, the verdict is the one by the Rust's own tests, whatever the set and the thresholds.
+pub extra-never-fires : (s : Set) (th : Thresholds) (f : Frame) (nine : List (List Float)) (row col : ℕ) (isMax : Bool) → length nine ≡ 9
+    → f .rows ≤ 4096 → f .cols ≤ 4096 → f .octave ≤ 5 → Within 4 f row col → rustVerdictOf s th f nine row col isMax ≡ verdictOf s th f nine row col isMax
+extra-never-fires = extra-never-fires-by (λ i. ours) ours-allowed
+
 -- ---- a map
 
 module _ (P : Choices) (allowed : AllAllowed P) (m : Maps) (rows-most : m .frame .rows ≤ 4096) (cols-most : m .frame .cols ≤ 4096) (octave-most : m .frame .octave ≤ 5) where
   judged-alike : (row col : ℕ) (isMax : Bool) → Within 4 (m .frame) row col → rustJudgeBy P m row col isMax ≡ judgeBy P m row col isMax
   unfolding rustJudgeBy judgeBy
   judged-alike row col isMax inside =
-      extra-never-fires (P row col isMax) (allowed row col isMax 4) (m .set) (m .thresholds) (m .frame) (nineAt m row col) row col isMax
+      extra-never-fires-by (P row col isMax) (allowed row col isMax 4) (m .set) (m .thresholds) (m .frame) (nineAt m row col) row col isMax
       (length-nine (samplesAt m) row col) rows-most cols-most octave-most inside
 
   row-alike : (row n : ℕ) → 4 ≤ row → row + 4 < m .frame .rows → n ≤ m .frame .cols - 8 → rustRowBy P m row n ≡ rowDueBy P m row n
@@ -106,13 +115,9 @@ module _ (P : Choices) (allowed : AllAllowed P) (m : Maps) (rows-most : m .frame
   pub due-by-any-rust : RecordsNear (rustDueBy P m) (due m)
   due-by-any-rust = rw due-untested (due~ P allowed m)
 
--- this build's choices are allowed
-ours-allowed : AllAllowed allOurs
-ours-allowed row col isMax i = record { low = λ i a b. same; high = λ i a b. same; first = λ i. same }
-
 -- For such a map, with this build's choices of zeros, it is the due list.
 pub due-by-the-rust : (m : Maps) → m .frame .rows ≤ 4096 → m .frame .cols ≤ 4096 → m .frame .octave ≤ 5 → rustDue m ≡ due m
-due-by-the-rust m rows-most cols-most octave-most = due-untested allOurs ours-allowed m rows-most cols-most octave-most ∙ sym (due-ours m)
+due-by-the-rust m rows-most cols-most octave-most = due-untested allOurs (λ row col isMax i. ours-allowed) m rows-most cols-most octave-most ∙ sym (due-ours m)
 
 -- ---- a call
 
