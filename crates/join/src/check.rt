@@ -32,11 +32,13 @@ pub fn checked(set: Set, rows: usize, cols: usize, list: &[u8], room: usize) -> 
     if (4096 < rows) | (4096 < cols) {
         return Checked::Bad(Refusal::Size);
     }
-    if !tables::is_good(set) {
+    let good = tables::is_good(set);
+    let count = list.len() / 40;
+    let whole = list.len() % 40 == 0;
+    if !good {
         return Checked::Bad(Refusal::BadSet);
     }
-    let count = list.len() / 40;
-    if list.len() % 40 != 0 {
+    if !whole {
         return Checked::Bad(Refusal::Records(count));
     }
     let bad = first_bad(rows, cols, list);

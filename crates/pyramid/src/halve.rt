@@ -24,10 +24,11 @@ pub fn checked(n: usize, room: usize, rows: usize, cols: usize) -> Checked
     if (4096 < rows) | (4096 < cols) {
         return Checked::Bad(Refusal::Size);
     }
-    if n != rows * cols {
+    let area = rows * cols;
+    let needed = half(rows, cols) * half(cols, rows);
+    if n != area {
         return Checked::Bad(Refusal::Level);
     }
-    let needed = half(rows, cols) * half(cols, rows);
     if room < needed {
         return Checked::Bad(Refusal::Room);
     }

@@ -1,6 +1,6 @@
 -- `check::checked` meets its contract: each return follows from the tests on the way to it.
 use borrow.Author.Needs.{needs}
-use borrow.Author.Tests.{lt-ltb, le-ltb, eq-eqb, ne-eqb, not-true, not-false}
+use borrow.Author.Tests.{lt-ltb, le-ltb, not-true, not-false}
 use Rattle.tables.specs.Refusal.{unless, firstOf}
 use Rattle.tables.proofs.RefusalLaws.{sides-most}
 use Rattle.join.specs.Join.{joinChecks}
@@ -23,7 +23,7 @@ returns-3 : tie.Need-returns-3
 unfolding joinChecks firstOf unless
 returns-3 c =
     let good = c .before .before in
-    rw (good .before .if1 .left, ← good .is-good .ensures, not-false (good .is-good .result) (c .before .if2 .left), ne-eqb _ _ (c .if3 .taken))
+    rw (good .before .if1 .left, ← good .is-good .ensures, not-false (good .is-good .result) (c .before .if2 .left), c .if3 .taken)
 
 first-bad-requires : tie.Need-first-bad-requires
 first-bad-requires c κs =
@@ -35,19 +35,19 @@ returns-4 : tie.Need-returns-4
 unfolding joinChecks firstOf unless
 returns-4 c =
     let good = c .before .before .before .before in
-    rw (good .before .if1 .left, ← good .is-good .ensures, not-false (good .is-good .result) (c .before .before .before .if2 .left), eq-eqb _ _ (c .before .before .if3 .left), ← c .before .first-bad .ensures, lt-ltb _ _ (c .if4 .taken))
+    rw (good .before .if1 .left, ← good .is-good .ensures, not-false (good .is-good .result) (c .before .before .before .if2 .left), c .before .before .if3 .left, ← c .before .first-bad .ensures, lt-ltb _ _ (c .if4 .taken))
 
 returns-5 : tie.Need-returns-5
 unfolding joinChecks firstOf unless
 returns-5 c =
     let good = c .before .before .before .before .before in
-    rw (good .before .if1 .left, ← good .is-good .ensures, not-false (good .is-good .result) (c .before .before .before .before .if2 .left), eq-eqb _ _ (c .before .before .before .if3 .left), ← c .before .before .first-bad .ensures, le-ltb _ _ (c .before .if4 .left), too-short _ _ (c .if5 .taken))
+    rw (good .before .if1 .left, ← good .is-good .ensures, not-false (good .is-good .result) (c .before .before .before .before .if2 .left), c .before .before .before .if3 .left, ← c .before .before .first-bad .ensures, le-ltb _ _ (c .before .if4 .left), too-short _ _ (c .if5 .taken))
 
 returns-6 : tie.Need-returns-6
 unfolding joinChecks firstOf unless
 returns-6 c =
     let good = c .before .before .before .before .before in
-    rw (good .before .if1 .left, ← good .is-good .ensures, not-false (good .is-good .result) (c .before .before .before .before .if2 .left), eq-eqb _ _ (c .before .before .before .if3 .left), ← c .before .before .first-bad .ensures, le-ltb _ _ (c .before .if4 .left), long-enough _ _ (c .if5 .left))
+    rw (good .before .if1 .left, ← good .is-good .ensures, not-false (good .is-good .result) (c .before .before .before .before .if2 .left), c .before .before .before .if3 .left, ← c .before .before .first-bad .ensures, le-ltb _ _ (c .before .if4 .left), long-enough _ _ (c .if5 .left))
 
 pub checked-spec : {M : Type 1} → statement M
 checked-spec =
