@@ -1,31 +1,11 @@
 // The C face of the correction.
 ghost use mathlib.Core.Path.{_≡_};
 ghost use mathlib.Core.List.{[], _∷_};
-ghost use Rattle.alp_c.specs.Face.{sizeNumber, sizeAfter, sizeLeft, correctFace};
+ghost use Rattle.alp_c.specs.Face.{sizeLeft, correctFace};
 use size::Correction;
 
-// The number of an answer: 0, or that of the refusal.
-fn number_of(answer: Correction) -> u32
-    ensures { λ r. ⌜ r ≡ sizeNumber answer ⌝ }
-{
-    match answer {
-        Correction::Size(sigma) => 0,
-        Correction::Refused(why) => tables::refusals::number_of(why),
-    }
-}
-
-// The corrected sigma; where there is none, what was there before.
-fn sigma_after(answer: Correction, before: f32) -> f32
-    ensures { λ r. ⌜ r ≡ sizeAfter answer before ⌝ }
-{
-    match answer {
-        Correction::Size(sigma) => sigma,
-        Correction::Refused(_) => before,
-    }
-}
-
 // Corrects the sigma of a spot with these samples under the set in the record set. Answers 0, with the corrected sigma in corrected, or the refusal's
-// number, with corrected as it was.
+// number, with corrected neither read nor written.
 #[no_mangle]
 pub extern "C" fn uramsheg_correct(
     set: &[u8],
@@ -43,6 +23,11 @@ pub extern "C" fn uramsheg_correct(
     let read = tables::read_set(set);
     let tables = read.set;
     let answer = alp::correct(tables, [s0, s1, s2, s3], sigma, is_max);
-    *corrected = sigma_after(answer, *corrected);
-    number_of(answer)
+    match answer {
+        Correction::Size(size) => {
+            *corrected = size;
+            0
+        }
+        Correction::Refused(why) => tables::refusals::number_of(why),
+    }
 }

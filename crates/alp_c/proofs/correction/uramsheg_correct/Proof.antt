@@ -1,6 +1,6 @@
--- `uramsheg_correct` meets its contract.
+-- `uramsheg_correct` meets its contract: only the arm that answers a size stores one.
 use borrow.Author.Needs.{needs}
-use Rattle.alp_c.specs.Face.{correctFace}
+use Rattle.alp_c.specs.Face.{sizeNumber, sizeAfter, correctFace}
 use Rattle.alp_c.proofs.correction.uramsheg_correct.Statement.{statement}
 use Rattle.alp_c.proofs.correction.uramsheg_correct.Tie as tie
 
@@ -10,17 +10,42 @@ read-set-requires c κs = search needs
 correct-requires : tie.Need-correct-requires
 correct-requires c κs = search needs
 
-sigma-after-requires : tie.Need-sigma-after-requires
-sigma-after-requires c κs = search needs
+enum-known-answer : tie.Need-enum-known-answer
+enum-known-answer c = search needs
+
+enum-known-answer-2 : tie.Need-enum-known-answer-2
+enum-known-answer-2 c = search needs
 
 number-of-requires : tie.Need-number-of-requires
 number-of-requires c κs = search needs
 
 returns : tie.Need-returns
-unfolding correctFace
-returns c = cc
+unfolding correctFace sizeNumber sizeAfter
+returns c =
+    rw (
+      ← c .before .before .before .before .before .read-set .ensures,
+      ← c .before .before .before .correct .ensures,
+      c .before .answer .given .1,
+    )
+
+returns-2 : tie.Need-returns-2
+unfolding correctFace sizeNumber sizeAfter
+returns-2 c =
+    rw (
+      ← c .before .before .before .before .before .before .read-set .ensures,
+      ← c .before .before .before .before .correct .ensures,
+      c .before .before .answer2 .given .1,
+      c .number-of .ensures .0,
+    )
 
 pub uramsheg-correct-spec : {M : Type 1} → statement M
 uramsheg-correct-spec =
     tie.close
-    (tie.spec read-set-requires correct-requires sigma-after-requires number-of-requires returns)
+    (tie.spec
+    read-set-requires
+    correct-requires
+    enum-known-answer
+    enum-known-answer-2
+    number-of-requires
+    returns
+    returns-2)

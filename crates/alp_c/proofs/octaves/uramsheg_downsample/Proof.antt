@@ -1,6 +1,6 @@
--- `uramsheg_downsample` meets its contract.
+-- `uramsheg_downsample` meets its contract: only the arm that answers sides stores them.
 use borrow.Author.Needs.{needs}
-use Rattle.alp_c.specs.Face.{downsampleFace}
+use Rattle.alp_c.specs.Face.{halvedNumber, rowsAfter, colsAfter, downsampleFace}
 use Rattle.alp_c.proofs.FaceLaws.{halved-left-by}
 use Rattle.alp_c.proofs.octaves.uramsheg_downsample.Statement.{statement}
 use Rattle.alp_c.proofs.octaves.uramsheg_downsample.Tie as tie
@@ -8,11 +8,11 @@ use Rattle.alp_c.proofs.octaves.uramsheg_downsample.Tie as tie
 downsample-requires : tie.Need-downsample-requires
 downsample-requires c κs = search needs
 
-rows-after-requires : tie.Need-rows-after-requires
-rows-after-requires c κs = search needs
+enum-known-answer : tie.Need-enum-known-answer
+enum-known-answer c = search needs
 
-cols-after-requires : tie.Need-cols-after-requires
-cols-after-requires c κs = search needs
+enum-known-answer-2 : tie.Need-enum-known-answer-2
+enum-known-answer-2 c = search needs
 
 number-of-requires : tie.Need-number-of-requires
 number-of-requires c κs = search needs
@@ -21,18 +21,31 @@ same-length : tie.Need-same-length
 same-length c = search needs
 
 returns : tie.Need-returns
-unfolding downsampleFace
+unfolding downsampleFace halvedNumber rowsAfter colsAfter
 returns c =
-    halved-left-by _ _ (c .number-of .ensures) (c .before .before .before .rows-after .ensures) (c .before .cols-after .ensures)
-    (c .before .before .before .before .before .before .before .downsample .ensures)
+    let call = c .before .before .before .before .before .downsample in
+    let is = c .before .answer .given .1 in
+    halved-left-by {a = call .result} _ _ (rw is) (rw is) (rw is) (call .ensures)
+
+same-length-2 : tie.Need-same-length-2
+same-length-2 c = search needs
+
+returns-2 : tie.Need-returns-2
+unfolding downsampleFace halvedNumber rowsAfter colsAfter
+returns-2 c =
+    let call = c .before .before .before .before .before .before .downsample in
+    let is = c .before .before .answer2 .given .1 in
+    halved-left-by {a = call .result} _ _ (rw is (c .number-of .ensures .0)) (rw is) (rw is) (call .ensures)
 
 pub uramsheg-downsample-spec : {M : Type 1} → statement M
 uramsheg-downsample-spec =
     tie.close
     (tie.spec
     downsample-requires
-    rows-after-requires
-    cols-after-requires
+    enum-known-answer
+    enum-known-answer-2
     number-of-requires
     same-length
-    returns)
+    returns
+    same-length-2
+    returns-2)
