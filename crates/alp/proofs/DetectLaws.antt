@@ -1,12 +1,15 @@
 -- Laws of detection's checks, and of what it leaves.
 use Prim.Native.Nat.{ℕ, _*_, _≤_}
 use native.Mathlib.Nat.{zero-add}
+use mathlib.Core.Bool.{not}
 use mathlib.Core.List.{List}
 use mathlib.Core.Path.{_≡_}
-use lib.Dec.{eqb}
+use lib.Dec.{ltb, eqb}
 use borrow.Author.Tests.{ltb-false, eqb-true, not-false}
+use Rattle.float.proofs.Bools.{neither}
 use Rattle.tables.specs.declared.Set.{Set}
 use Rattle.tables.specs.declared.Checked.the-variants.{Fine}
+use Rattle.tables.specs.Refusal.{firstOf}
 use Rattle.tables.proofs.RefusalLaws.{unless-fine}
 use Rattle.record.proofs.LayoutLaws.{lay-laid}
 use Rattle.alp.specs.Level.{Maps, Sized}
@@ -19,26 +22,26 @@ pub record Passed (n0 n1 n2 n3 rows cols octave : ℕ) : Type 0 where
   pub sized : Sized (record { rows = rows; cols = cols; octave = octave }) n0 n1 n2 n3
   pub octave-most : octave ≤ 5
 
-pub checks-passed : (n0 n1 n2 n3 rows cols octave : ℕ) (s : Set) → detectChecks n0 n1 n2 n3 rows cols octave s ≡ Fine → Passed n0 n1 n2 n3 rows cols octave
-unfolding detectChecks
+pub checks-passed : (n0 n1 n2 n3 rows cols octave : ℕ) (s : Set) → firstOf (detectChecks n0 n1 n2 n3 rows cols octave s) ≡ Fine → Passed n0 n1 n2 n3 rows cols octave
+unfolding detectChecks firstOf
 checks-passed n0 n1 n2 n3 rows cols octave s h =
-    let a = unless-fine _ _ _ h in
-    let b = unless-fine _ _ _ (a .1) in
-    let c = unless-fine _ _ _ (b .1) in
-    let d = unless-fine _ _ _ (c .1) in
-    let e = unless-fine _ _ _ (d .1) in
-    let f = unless-fine _ _ _ (e .1) in
-    let g = unless-fine _ _ _ (f .1) in
+    let sides = unless-fine _ _ _ h in
+    let levels = unless-fine _ _ _ (sides .1) in
+    let octaves = unless-fine _ _ _ (levels .1) in
+    let side = neither (ltb 4096 rows) (ltb 4096 cols) (sides .0) in
+    let first = neither (not (eqb n0 (rows * cols))) _ (levels .0) in
+    let second = neither (not (eqb n1 (rows * cols))) _ (first .1) in
+    let third = neither (not (eqb n2 (rows * cols))) (not (eqb n3 (rows * cols))) (second .1) in
     record {
       sized = record {
-        rows-most = ltb-false _ _ (a .0);
-        cols-most = ltb-false _ _ (b .0);
-        long0 = eqb-true _ _ (not-false (eqb n0 (rows * cols)) (c .0));
-        long1 = eqb-true _ _ (not-false (eqb n1 (rows * cols)) (d .0));
-        long2 = eqb-true _ _ (not-false (eqb n2 (rows * cols)) (e .0));
-        long3 = eqb-true _ _ (not-false (eqb n3 (rows * cols)) (f .0));
+        rows-most = ltb-false _ _ (side .0);
+        cols-most = ltb-false _ _ (side .1);
+        long0 = eqb-true _ _ (not-false (eqb n0 (rows * cols)) (first .0));
+        long1 = eqb-true _ _ (not-false (eqb n1 (rows * cols)) (second .0));
+        long2 = eqb-true _ _ (not-false (eqb n2 (rows * cols)) (third .0));
+        long3 = eqb-true _ _ (not-false (eqb n3 (rows * cols)) (third .1));
       };
-      octave-most = ltb-false _ _ (g .0);
+      octave-most = ltb-false _ _ (octaves .0);
     }
 
 -- the whole list laid from the buffer's start, and its length, are what a call that no check refuses leaves and answers

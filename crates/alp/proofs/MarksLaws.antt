@@ -22,7 +22,7 @@ use Rattle.pixel.specs.Stands.{ownsEither, ownOf, beatsCubic}
 use Rattle.pixel.specs.declared.Own.{Own}
 use Rattle.pixel.proofs.StandsLaws.{unowned-gates, stands-low, stands-high, beats-place}
 use Rattle.alp.specs.Level.{Maps, nineOf}
-use Rattle.alp.specs.Marks.{standsAt, codeOf, markBy, markOf, heightOf, Marked, Column, Strip}
+use Rattle.alp.specs.Inside.Marks.{standsAt, codeOf, markBy, markOf, heightOf, Marked, Column, Strip}
 use Rattle.alp.proofs.LevelLaws.{placed, length-nine, nine-place, nine-centre}
 
 -- ---- from samples

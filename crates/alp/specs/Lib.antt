@@ -1,6 +1,6 @@
--- Detection: levels, the due list, what the detector answers and leaves, and when it refuses.
+-- Detection: levels, the due list, and what the detector answers and leaves, refusals first. The public promises cite these.
 pub mod Level
 pub mod Due
 pub mod Detect
-pub mod Refusals
-pub mod Marks
+-- only inner functions cite this
+pub mod Inside

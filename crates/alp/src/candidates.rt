@@ -2,9 +2,10 @@
 ghost use mathlib.Core.Path.{_≡_};
 ghost use Prim.Native.Nat.{_+_, _-_, _<_, _≤_, _^_};
 ghost use lib.ListN.{length};
+ghost use Rattle.tables.specs.Refusal.{firstOf};
 ghost use Rattle.alp.specs.Level.{mapsOf, Within, Sized};
 ghost use Rattle.alp.specs.Due.{listed, pixelDue, rowDue, due, Laid};
-ghost use Rattle.alp.specs.Marks.{markOf, Strip};
+ghost use Rattle.alp.specs.Inside.Marks.{markOf, Strip};
 ghost use Rattle.alp.specs.Detect.{detectChecks};
 use crate::level;
 use crate::marks;
@@ -15,7 +16,7 @@ use tables::Refusal;
 use tables::Set;
 use tables::Thresholds;
 
-// The first refusal that applies, in the order of their numbers.
+// Of detection's checks, in their order, the first that holds.
 pub fn checked(
     n0: usize,
     n1: usize,
@@ -26,8 +27,9 @@ pub fn checked(
     octave: usize,
     set: Set,
 ) -> Checked
-    ensures { λ r. ⌜ r ≡ detectChecks n0 n1 n2 n3 rows cols octave set ⌝ }
+    ensures { λ r. ⌜ r ≡ firstOf (detectChecks n0 n1 n2 n3 rows cols octave set) ⌝ }
 {
+    let good = tables::is_good(set);
     if 4096 < rows {
         return Checked::Bad(Refusal::Size);
     }
@@ -50,7 +52,7 @@ pub fn checked(
     if 5 < octave {
         return Checked::Bad(Refusal::Octave);
     }
-    if !tables::is_good(set) {
+    if !good {
         return Checked::Bad(Refusal::BadSet);
     }
     Checked::Fine

@@ -8,7 +8,7 @@ ghost use Rattle.pixel.specs.Gate.{sigmaOf, peakOf};
 ghost use Rattle.pixel.specs.Ring.{beatsOf, ringOf};
 ghost use Rattle.pixel.specs.Verdict.{cubicsOf};
 ghost use Rattle.alp.specs.Level.{mapsOf, samplesOf, nineOf, Within, Sized};
-ghost use Rattle.alp.specs.Marks.{codeOf, markBy, heightOf, Column, Marked, Strip};
+ghost use Rattle.alp.specs.Inside.Marks.{codeOf, markBy, heightOf, Column, Marked, Strip};
 use crate::level;
 use fit::Band;
 use fit::Envelope;

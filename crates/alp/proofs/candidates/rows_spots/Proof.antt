@@ -5,7 +5,7 @@ use mathlib.Core.Path.{_≡_}
 use Prim.Native.Nat.{ℕ, _%_, _≤_, _<_, _-_}
 use lib.ListN.{length, length-replicate}
 use Rattle.alp.specs.Level.{mapsOf}
-use Rattle.alp.specs.Marks.{Strip}
+use Rattle.alp.specs.Inside.Marks.{Strip}
 use Rattle.alp.specs.Due.{Laid, rowsDue, due}
 use Rattle.alp.proofs.DueLaws.{laid-none, laid-append, laid-length, rowsDue-short}
 use Rattle.alp.proofs.MarksLaws.{strip-next}

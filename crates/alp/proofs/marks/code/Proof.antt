@@ -1,5 +1,5 @@
 -- `marks::code` meets its contract.
-use Rattle.alp.specs.Marks.{codeOf}
+use Rattle.alp.specs.Inside.Marks.{codeOf}
 use Rattle.alp.proofs.marks.code.Statement.{statement}
 use Rattle.alp.proofs.marks.code.Tie as tie
 

@@ -1,6 +1,6 @@
 -- `marks::height_of` meets its contract.
 use borrow.Author.Tests.{lt-ltb, le-ltb}
-use Rattle.alp.specs.Marks.{heightOf}
+use Rattle.alp.specs.Inside.Marks.{heightOf}
 use Rattle.alp.proofs.marks.height_of.Statement.{statement}
 use Rattle.alp.proofs.marks.height_of.Tie as tie
 
