@@ -12,7 +12,7 @@ abs-requires c κs = search needs
 
 returns : tie.Need-returns
 unfolding nearby
-returns c = cc
+returns c = rw (c .abs .ensures, c .before .is-finite .ensures)
 
 pub is-nearby-spec : {M : Type 1} → statement M
 is-nearby-spec = tie.close (tie.spec is-finite-requires abs-requires returns)
