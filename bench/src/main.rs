@@ -1,6 +1,6 @@
 //! Times detection on maps of blobs and noise: ours, the Rust's reference and its streaming pass; then the sizing of the spots found: our join, and the
 //! Rust's correction. One thread, in one run. `bench [SIDE]`.
-use judge::{Logs, fixed};
+use judge::{Logs, Pass, fixed};
 use std::time::Instant;
 use uramsheg::{Map, SPOT_BYTES, SIZED_BYTES, Spot, Thresholds};
 
@@ -104,16 +104,17 @@ fn main() {
     println!("|---|---|---|---|---|---|---|");
     for peak in [1.0, 0.1, 0.01, 0.0] {
         let (sigma, ratio, low, high) = (0.0, 12.1, 1.9027314, 4.1498866);
-        let th = judge::Thresholds { peak, sigma, ratio, low, high };
-        let (ours, found) = least(side, || time_ours(&record, Thresholds { peak, sigma, ratio, low, high }, map, &mut out));
-        let (reference, expected) = least(side, || fixed::time_reference(SET, th, side, side, 0, levels));
-        let (stream, streamed) = least(side, || fixed::time_stream(SET, th, side, side, 0, levels));
+        let thresholds = Thresholds { peak, sigma, ratio, low, high };
+        let asked = judge::Map { thresholds: [peak, sigma, ratio, low, high].into(), rows: side, cols: side, octave: 0, levels };
+        let (ours, found) = least(side, || time_ours(&record, thresholds, map, &mut out));
+        let (reference, expected) = least(side, || fixed::time(SET, Pass::Reference, asked));
+        let (stream, streamed) = least(side, || fixed::time(SET, Pass::Streaming, asked));
         assert!(found == expected && found == streamed, "{found} spots, the reference {expected}, the stream {streamed}");
         let list = &out[..SPOT_BYTES * found];
-        fixed::detect(SET, th, side, side, 0, levels, &mut theirs);
-        assert!(list == &theirs[..list.len()], "the list differs from the reference's");
-        fixed::detect_stream(SET, th, side, side, 0, levels, &mut theirs);
-        assert!(list == &theirs[..list.len()], "the list differs from the streaming pass's");
+        for pass in [Pass::Reference, Pass::Streaming] {
+            fixed::detect(SET, pass, asked, &mut theirs);
+            assert!(list == &theirs[..list.len()], "the list differs from the {pass:?} pass's");
+        }
         println!(
             "| {side} by {side}, peak {peak} | {found} | {ours:.1} | {reference:.1} | {:.2} | {stream:.1} | {:.2} |",
             ours / reference, ours / stream

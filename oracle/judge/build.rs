@@ -379,7 +379,7 @@ fn cubic_rows(entries: &[f32; 12]) -> String {
     format!("[{}]", rows.collect::<Vec<_>>().join(", "))
 }
 
-fn tables_of(set: &fixed_sets::PlainSet) -> String {
+fn tables_of(set: &fixed_sets::Set) -> String {
     let (first, second) = set.spatial.split_at(45);
     let unused = "[f32::NAN; 45]";
     format!(
@@ -394,7 +394,7 @@ fn tables_of(set: &fixed_sets::PlainSet) -> String {
     )
 }
 
-fn geometry_tables_of(set: &fixed_sets::PlainSet) -> String {
+fn geometry_tables_of(set: &fixed_sets::Set) -> String {
     let names = [
         "LOG_SIGMA_ORIGIN",
         "CURVATURE_EPSILON",

@@ -1,6 +1,7 @@
 //! Cases at an edge: a scene or a correction with one float put to a chosen value.
 
-use crate::case::{Case, Scene, correct, lively};
+use crate::case::{Case, Scene};
+use crate::families::{correct, lively};
 use crate::random::Random;
 use crate::sets::FLOATS;
 

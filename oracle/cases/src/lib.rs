@@ -2,6 +2,7 @@
 
 pub mod case;
 pub mod edges;
+pub mod families;
 pub mod maps;
 mod mirrored;
 mod overshoot;
@@ -12,6 +13,7 @@ pub mod sets;
 mod turning;
 pub mod words;
 
-pub use case::{Case, FAMILIES, Scene, expand};
+pub use case::{Case, Scene};
 pub use edges::{Knob, turn};
+pub use families::{FAMILIES, expand};
 pub use sets::Set;

@@ -1,7 +1,7 @@
 //! The judge as a subject, so that one driver serves every comparison.
 
 use cases::{Scene, Set};
-use judge::{Answer, Logs, Rules, Thresholds, inner, steps};
+use judge::{Answer, Logs, Map, Pass, Rules, inner, steps};
 use subject::{Reply, Subject};
 
 /// The judge under given rules, by its reference or its streaming pass.
@@ -9,7 +9,7 @@ use subject::{Reply, Subject};
 pub struct Judge {
     pub rules: Rules,
     pub logs: Logs,
-    pub stream: bool,
+    pub pass: Pass,
 }
 
 impl Judge {
@@ -18,7 +18,15 @@ impl Judge {
         Judge {
             rules: Rules::Document,
             logs: Logs::Steps,
-            stream: false,
+            pass: Pass::Reference,
+        }
+    }
+
+    /// The same by the streaming pass.
+    pub fn streaming() -> Judge {
+        Judge {
+            pass: Pass::Streaming,
+            ..Judge::sound()
         }
     }
 }
@@ -32,6 +40,17 @@ pub fn set_of(set: &Set) -> judge::Set {
         spatial: set.spatial,
         numbers: set.numbers,
         order: set.order,
+    }
+}
+
+/// The judge's form of a scene's map.
+pub fn map_of(scene: &Scene) -> Map<'_> {
+    Map {
+        thresholds: scene.thresholds.into(),
+        rows: scene.rows,
+        cols: scene.cols,
+        octave: scene.octave,
+        levels: [0, 1, 2, 3].map(|level| scene.levels[level].as_slice()),
     }
 }
 
@@ -103,47 +122,23 @@ fn reply_of(answer: Answer) -> Reply {
 
 impl Subject for Judge {
     fn name(&self) -> String {
-        let pass = if self.stream {
-            "streaming pass"
-        } else {
-            "reference"
+        let pass = match self.pass {
+            Pass::Reference => "reference",
+            Pass::Streaming => "streaming pass",
         };
         format!("the judge's {pass}, {:?} rules", self.rules)
     }
 
     fn list_program(&mut self, input: &[u8]) -> Option<Vec<u8>> {
         match read_back(input) {
-            Some(scene) if self.stream => Some(self.printed(&scene)),
+            Some(scene) if self.pass == Pass::Streaming => Some(self.printed(&scene)),
             _ => Some(judge::list_program(input, true)),
         }
     }
 
     fn detect(&mut self, scene: &Scene, out: &mut [u8]) -> Option<Reply> {
-        let [peak, sigma, ratio, low, high] = scene.thresholds;
-        let thresholds = Thresholds {
-            peak,
-            sigma,
-            ratio,
-            low,
-            high,
-        };
-        let levels = [0, 1, 2, 3].map(|level| scene.levels[level].as_slice());
-        let pass = if self.stream {
-            judge::detect_stream
-        } else {
-            judge::detect
-        };
-        let set = set_of(&scene.set);
-        let answer = pass(
-            self.rules,
-            &set,
-            thresholds,
-            scene.rows,
-            scene.cols,
-            scene.octave,
-            levels,
-            out,
-        );
+        let (set, map) = (set_of(&scene.set), map_of(scene));
+        let answer = judge::detect(self.rules, self.pass, &set, map, out);
         Some(reply_of(answer))
     }
 

@@ -13,6 +13,7 @@ mod steps;
 mod tally;
 
 use cases::{Knob, expand, turn};
+use judge::Pass;
 use judged::Judge;
 use std::process::ExitCode;
 use std::time::Instant;
@@ -235,9 +236,7 @@ fn widest(seed: u64) -> bool {
     let archive = against("widest-archive", &mut subject::archive::Archive::default());
     #[cfg(not(feature = "archive"))]
     let archive = true;
-    let mut stream = Judge::sound();
-    stream.stream = true;
-    against("widest-streaming", &mut stream) & archive
+    against("widest-streaming", &mut Judge::streaming()) & archive
 }
 
 /// Writes the stored list.
@@ -260,19 +259,12 @@ fn stored(path: &str) -> bool {
     let sections = read(&bytes).unwrap_or_else(|| panic!("{path} is no stored list"));
     let mut all_sound = true;
     for section in &sections {
-        for stream in [false, true] {
+        for (pass, mut judge) in [("", Judge::sound()), ("-streaming", Judge::streaming())] {
             let maps = ["list", "detect", "sized", "wide", "steep", "edge"];
-            if stream && !maps.contains(&section.family.as_str()) {
+            if judge.pass == Pass::Streaming && !maps.contains(&section.family.as_str()) {
                 continue;
             }
-            let outcome = replay(
-                section,
-                &mut Judge {
-                    stream,
-                    ..Judge::sound()
-                },
-            );
-            let pass = if stream { "-streaming" } else { "" };
+            let outcome = replay(section, &mut judge);
             let seen = format!("{} cases, {} differ", outcome.asked, outcome.differing);
             all_sound &= own::told(
                 &format!("stored-{}{pass}", section.family),

@@ -1,10 +1,10 @@
 //! The comparisons that need no subject: the judge's passes, builds and rules among themselves.
 
-use crate::judged::{Judge, from_judge, read_back, set_of};
+use crate::judged::{Judge, from_judge, map_of, read_back, set_of};
 use crate::plan;
 use cases::random::Random;
 use cases::{Case, Scene, edges, sets};
-use judge::{Logs, Rules, Thresholds, inner};
+use judge::{Logs, Pass, Rules, inner};
 use subject::{Reply, Subject, difference};
 
 /// Prints one check's line and gives whether it passed.
@@ -41,10 +41,10 @@ fn scene_of(family: &str, seed: u64, one: &plan::Numbered) -> Option<Scene> {
 pub fn passes(seed: u64, times: usize) -> bool {
     let (mut maps, mut other_rules) = (0, 0);
     let (mut fault, mut first_rule) = (None, None);
-    let published = Judge {
+    let [published, published_stream] = [Judge::sound(), Judge::streaming()].map(|pass| Judge {
         rules: Rules::Published,
-        ..Judge::sound()
-    };
+        ..pass
+    });
     for family in ["list", "detect", "sized", "wide", "steep", "edge"] {
         plan::each(family, seed, times, |one| {
             let Some(scene) = scene_of(family, seed, &one) else {
@@ -53,27 +53,12 @@ pub fn passes(seed: u64, times: usize) -> bool {
             maps += 1;
             let label = format!("{family} {seed} {}", one.number);
             let sound = whole(Judge::sound(), &scene);
-            let stream = whole(
-                Judge {
-                    stream: true,
-                    ..Judge::sound()
-                },
-                &scene,
-            );
+            let stream = whole(Judge::streaming(), &scene);
             if sound != stream && fault.is_none() {
                 fault = Some(format!("{label}: {}", difference(&sound.1, &stream.1)));
             }
             let plain = whole(published, &scene);
-            if plain
-                != whole(
-                    Judge {
-                        stream: true,
-                        ..published
-                    },
-                    &scene,
-                )
-                && fault.is_none()
-            {
+            if plain != whole(published_stream, &scene) && fault.is_none() {
                 fault = Some(format!(
                     "{label}: the passes part under the published rules"
                 ));
@@ -136,31 +121,11 @@ pub fn builds(seed: u64, times: usize) -> bool {
         for number in 0..120 * times {
             let random = &mut Random::new(seed, 301 + index as u64, number as u64);
             let scene = fixed_scene(random, &set);
-            let [peak, sigma, ratio, low, high] = scene.thresholds;
-            let thresholds = Thresholds {
-                peak,
-                sigma,
-                ratio,
-                low,
-                high,
-            };
-            let levels = [0, 1, 2, 3].map(|level| scene.levels[level].as_slice());
+            let (pass, map) = (Pass::Reference, map_of(&scene));
             let mut out = vec![0u8; 80 * scene.rows * scene.cols];
-            let answer = judge::fixed::detect(
-                index, thresholds, scene.rows, scene.cols, 0, levels, &mut out,
-            );
-            let mut again = vec![0u8; out.len()];
-            let pass = judge::detect;
-            let same = pass(
-                Rules::Published,
-                &set,
-                thresholds,
-                scene.rows,
-                scene.cols,
-                0,
-                levels,
-                &mut again,
-            );
+            let mut again = out.clone();
+            let answer = judge::fixed::detect(index, pass, map, &mut out);
+            let same = judge::detect(Rules::Published, pass, &set, map, &mut again);
             maps += 1;
             if (answer, &out) != (same, &again) {
                 fault.get_or_insert_with(|| {
@@ -177,10 +142,11 @@ pub fn builds(seed: u64, times: usize) -> bool {
 }
 
 fn fixed_scene(random: &mut Random, set: &judge::Set) -> Scene {
-    let mut scene = cases::case::lively(random);
+    let mut scene = cases::families::lively(random);
+    scene.octave = 0;
     scene.set = from_judge(set);
     scene.levels = cases::maps::any(random, &scene.set, scene.rows, scene.cols);
-    scene.thresholds = cases::case::thresholds(random, &scene.set);
+    scene.thresholds = cases::families::thresholds(random, &scene.set);
     scene
 }
 

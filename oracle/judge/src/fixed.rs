@@ -2,15 +2,14 @@
 
 use crate::entries::write_spots;
 use crate::fixed_builds as builds;
-use crate::record::Spot;
 use crate::shims::math_compat;
-use crate::{Answer, Logs, Set, Thresholds, entries, fixed_sets};
+use crate::{Answer, Logs, Map, Pass, Set, entries, fixed_sets};
 
 /// The fixed sets' names; the other functions take an index into them.
 pub const NAMES: [&str; 5] = fixed_sets::NAMES;
 
 pub fn set(index: usize) -> Set {
-    fixed_sets::by_index(index).into()
+    fixed_sets::by_index(index)
 }
 
 macro_rules! of_build {
@@ -26,67 +25,18 @@ macro_rules! of_build {
     };
 }
 
-fn answered(
-    index: usize,
-    (rows, cols, octave): (usize, usize, usize),
-    levels: [&[f32]; 4],
-    out: &mut [u8],
-    find: impl FnOnce() -> Vec<Spot>,
-) -> Answer {
-    match entries::detection_refusal(set(index).good(), rows, cols, octave, levels) {
+/// Detection by one of the passes.
+pub fn detect(index: usize, pass: Pass, map: Map, out: &mut [u8]) -> Answer {
+    match entries::detection_refusal(set(index).good(), map) {
         Some(number) => Answer::Refused { number, index: 0 },
-        None => write_spots(&find(), out),
+        None => write_spots(&of_build!(index, detect(pass, map)).1, out),
     }
 }
 
-pub fn detect(
-    index: usize,
-    th: Thresholds,
-    rows: usize,
-    cols: usize,
-    octave: usize,
-    levels: [&[f32]; 4],
-    out: &mut [u8],
-) -> Answer {
-    let find = || of_build!(index, detect(th, rows, cols, octave, levels));
-    answered(index, (rows, cols, octave), levels, out, find)
-}
-
-pub fn detect_stream(
-    index: usize,
-    th: Thresholds,
-    rows: usize,
-    cols: usize,
-    octave: usize,
-    levels: [&[f32]; 4],
-    out: &mut [u8],
-) -> Answer {
-    let find = || of_build!(index, detect_stream(th, rows, cols, octave, levels));
-    answered(index, (rows, cols, octave), levels, out, find)
-}
-
-/// Seconds of the reference's pass alone, and the spots it found.
-pub fn time_reference(
-    index: usize,
-    th: Thresholds,
-    rows: usize,
-    cols: usize,
-    octave: usize,
-    levels: [&[f32]; 4],
-) -> (f64, usize) {
-    of_build!(index, time_reference(th, rows, cols, octave, levels))
-}
-
-/// Seconds of the streaming pass alone, and the spots it found.
-pub fn time_stream(
-    index: usize,
-    th: Thresholds,
-    rows: usize,
-    cols: usize,
-    octave: usize,
-    levels: [&[f32]; 4],
-) -> (f64, usize) {
-    of_build!(index, time_stream(th, rows, cols, octave, levels))
+/// The seconds of a pass alone, and how many spots it found.
+pub fn time(index: usize, pass: Pass, map: Map) -> (f64, usize) {
+    let (seconds, spots) = of_build!(index, detect(pass, map));
+    (seconds, spots.len())
 }
 
 pub fn correct(

@@ -1,8 +1,8 @@
 //! The few sets that stand as real constants in the build of the text as published.
 
-/// A set as plain numbers, in the order of its record.
+/// What the published text names as constants and does not show, in the order of its record.
 #[derive(Clone)]
-pub struct PlainSet {
+pub struct Set {
     pub sigmas: [f32; 4],
     pub scale: [f32; 12],
     pub geometry: [f32; 12],
@@ -19,7 +19,7 @@ pub const NAMES: [&str; 5] = [
     "repeated_order",
 ];
 
-pub fn by_index(index: usize) -> PlainSet {
+pub fn by_index(index: usize) -> Set {
     match index {
         0 => set_t(),
         1 => half_octaves(),
@@ -30,7 +30,7 @@ pub fn by_index(index: usize) -> PlainSet {
 }
 
 /// Set T of document 01.
-pub fn set_t() -> PlainSet {
+pub fn set_t() -> Set {
     let cubic = [0.0, 0.0, 0.0, 1.0, 0.0, 0.0, 0.0, 1.0, 0.0, 0.0, 0.0, 1.0];
     let mut spatial = [0.0; 90];
     for block in spatial.chunks_exact_mut(45) {
@@ -38,7 +38,7 @@ pub fn set_t() -> PlainSet {
         block[9 + 5] = 1.0;
         block[3 * 9 + 4] = 0.25;
     }
-    PlainSet {
+    Set {
         sigmas: [1.0, 2.0, 3.0, 4.0],
         scale: cubic,
         geometry: cubic,
@@ -92,10 +92,10 @@ fn both(first: [f32; 45], second: [f32; 45]) -> [f32; 90] {
 }
 
 /// Sigmas 1.6 * 2^(k/2) and the cubics through them.
-fn half_octaves() -> PlainSet {
+fn half_octaves() -> Set {
     let sigmas: [f64; 4] = core::array::from_fn(|k| 1.6 * 2f64.powf(k as f64 / 2.0));
     let order = [0, 1, 2, 3, 4, 5, 6, 7, 8];
-    PlainSet {
+    Set {
         sigmas: sigmas.map(|sigma| sigma as f32),
         scale: cubic_through(sigmas),
         geometry: cubic_through([0.0, 0.5, 1.0, 1.5]),
@@ -108,10 +108,10 @@ fn half_octaves() -> PlainSet {
 }
 
 /// Sigmas near those, another order of samples and a fit that leans on the middle.
-fn weighted() -> PlainSet {
+fn weighted() -> Set {
     let sigmas = [1.59, 2.271, 3.187, 4.533];
     let order = [4, 1, 3, 5, 7, 0, 2, 6, 8];
-    PlainSet {
+    Set {
         sigmas: sigmas.map(|sigma| sigma as f32),
         scale: cubic_through(sigmas),
         geometry: cubic_through(sigmas.map(|sigma: f64| (sigma / 1.7).log2())),
@@ -124,7 +124,7 @@ fn weighted() -> PlainSet {
 }
 
 /// A sigma whose square is subnormal, two that are neighbours, equal blends, no compatibility range, a cap of -0.
-fn degenerate() -> PlainSet {
+fn degenerate() -> Set {
     let mut set = set_t();
     set.sigmas = [1e-20, 1.5, 2.5, 2.5000002];
     set.scale = [
@@ -144,7 +144,7 @@ fn degenerate() -> PlainSet {
 }
 
 /// The half octaves with an order that names some samples twice and others not at all.
-fn repeated_order() -> PlainSet {
+fn repeated_order() -> Set {
     let mut set = half_octaves();
     set.order = [0, 1, 2, 3, 4, 5, 5, 7, 4];
     set.spatial[7] = 0.375;

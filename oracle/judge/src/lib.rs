@@ -14,10 +14,10 @@ use shims::{extraction, math_compat};
 include!(concat!(env!("OUT_DIR"), "/generated.rs"));
 
 pub use counting::{counts, reset_counts};
-pub use entries::{correct, detect, detect_stream, downsample, join, octave_count_rule};
+pub use entries::{correct, detect, downsample, join, octave_count_rule};
 pub use list::list_program;
 pub use run::inner;
-pub use set::{Answer, Logs, Rules, Set, Thresholds};
+pub use set::{Answer, Logs, Map, Pass, Rules, Set, Thresholds};
 
 /// The octave count by Rust's logarithm, as published.
 pub fn octave_count_published(rows: usize, cols: usize) -> usize {

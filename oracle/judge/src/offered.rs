@@ -2,8 +2,9 @@
 
 use super::blur::BaseImage;
 use super::{GrayImage, reference, scale_fit, stream};
-use crate::Thresholds;
 use crate::record::Spot;
+use crate::{Map, Pass, Thresholds};
+use std::time::Instant;
 
 fn params(th: Thresholds) -> stream::DetectionParams {
     stream::DetectionParams {
@@ -23,68 +24,34 @@ fn spots(candidates: Vec<stream::Candidate>) -> Vec<Spot> {
     candidates.into_iter().map(spot).collect()
 }
 
-pub fn detect(
-    th: Thresholds,
-    rows: usize,
-    cols: usize,
-    octave: usize,
-    levels: [&[f32]; 4],
-) -> Vec<Spot> {
-    let base = GrayImage::from_vec(rows, cols, levels.concat());
-    let space = reference::ScaleSpace::from_column_blur(&base, octave);
-    spots(space.detect_candidates(octave, &params(th)))
-}
-
-pub fn detect_stream(
-    th: Thresholds,
-    rows: usize,
-    cols: usize,
-    octave: usize,
-    levels: [&[f32]; 4],
-) -> Vec<Spot> {
-    let pixels = levels.concat();
-    let base = BaseImage {
-        pixels: &pixels,
+/// The spots that a pass finds, and its seconds: the reference's with the levels in place, the streaming pass's with the copy of each column that stands
+/// for its blur.
+pub fn detect(pass: Pass, map: Map) -> (f64, Vec<Spot>) {
+    let Map {
+        thresholds,
         rows,
         cols,
+        octave,
+        levels,
+    } = map;
+    let (params, pixels) = (params(thresholds), levels.concat());
+    let timed = |run: &dyn Fn() -> Vec<stream::Candidate>| {
+        let began = Instant::now();
+        let candidates = run();
+        (began.elapsed().as_secs_f64(), spots(candidates))
     };
-    spots(stream::detect_octave(base, octave, Some(&params(th)), false).candidates)
-}
-
-/// Seconds of the reference's pass alone, its levels already in place, and the spots it found.
-#[allow(dead_code)]
-pub fn time_reference(
-    th: Thresholds,
-    rows: usize,
-    cols: usize,
-    octave: usize,
-    levels: [&[f32]; 4],
-) -> (f64, usize) {
-    let base = GrayImage::from_vec(rows, cols, levels.concat());
-    let space = reference::ScaleSpace::from_column_blur(&base, octave);
-    let began = std::time::Instant::now();
-    let found = space.detect_candidates(octave, &params(th)).len();
-    (began.elapsed().as_secs_f64(), found)
-}
-
-/// Seconds of the streaming pass, which copies each column of the levels as it goes where it would blur one, and the spots it found.
-#[allow(dead_code)]
-pub fn time_stream(
-    th: Thresholds,
-    rows: usize,
-    cols: usize,
-    octave: usize,
-    levels: [&[f32]; 4],
-) -> (f64, usize) {
-    let pixels = levels.concat();
-    let base = BaseImage {
-        pixels: &pixels,
-        rows,
-        cols,
-    };
-    let began = std::time::Instant::now();
-    let found = stream::detect_octave(base, octave, Some(&params(th)), false).candidates.len();
-    (began.elapsed().as_secs_f64(), found)
+    match pass {
+        Pass::Reference => {
+            let base = GrayImage::from_vec(rows, cols, pixels);
+            let space = reference::ScaleSpace::from_column_blur(&base, octave);
+            timed(&|| space.detect_candidates(octave, &params))
+        }
+        Pass::Streaming => {
+            let pixels = &pixels;
+            let base = || BaseImage { pixels, rows, cols };
+            timed(&|| stream::detect_octave(base(), octave, Some(&params), false).candidates)
+        }
+    }
 }
 
 pub fn correct(samples: &[f32; 4], sigma: f32, is_max: bool) -> Option<f32> {

@@ -1,43 +1,12 @@
-//! The set, the thresholds, the answers and the choices a caller makes.
+//! The set, the thresholds, the map, the answers and the choices a caller makes.
 
-use crate::fixed_sets::{self, PlainSet};
-
-/// What the published text names as constants and does not show.
-#[derive(Clone)]
-pub struct Set {
-    pub sigmas: [f32; 4],
-    pub scale: [f32; 12],
-    pub geometry: [f32; 12],
-    pub spatial: [f32; 90],
-    pub numbers: [f32; 11],
-    pub order: [u8; 9],
-}
-
-impl From<PlainSet> for Set {
-    fn from(plain: PlainSet) -> Set {
-        let PlainSet {
-            sigmas,
-            scale,
-            geometry,
-            spatial,
-            numbers,
-            order,
-        } = plain;
-        Set {
-            sigmas,
-            scale,
-            geometry,
-            spatial,
-            numbers,
-            order,
-        }
-    }
-}
+pub use crate::fixed_sets::Set;
+use crate::fixed_sets::set_t;
 
 impl Set {
     /// Set T of document 01.
     pub fn t() -> Set {
-        fixed_sets::set_t().into()
+        set_t()
     }
 
     /// All 129 floats finite, the sigmas positive and strictly rising, the cap not below 0, each order byte under 9.
@@ -97,6 +66,35 @@ pub struct Thresholds {
     pub ratio: f32,
     pub low: f32,
     pub high: f32,
+}
+
+impl From<[f32; 5]> for Thresholds {
+    fn from([peak, sigma, ratio, low, high]: [f32; 5]) -> Thresholds {
+        Thresholds {
+            peak,
+            sigma,
+            ratio,
+            low,
+            high,
+        }
+    }
+}
+
+/// Four levels by columns, and what a spot of theirs must pass.
+#[derive(Clone, Copy, Debug)]
+pub struct Map<'a> {
+    pub thresholds: Thresholds,
+    pub rows: usize,
+    pub cols: usize,
+    pub octave: usize,
+    pub levels: [&'a [f32]; 4],
+}
+
+/// The published text's two ways to detect.
+#[derive(Clone, Copy, PartialEq, Eq, Debug)]
+pub enum Pass {
+    Reference,
+    Streaming,
 }
 
 /// The published text as it stands, or with document 01's named differences.

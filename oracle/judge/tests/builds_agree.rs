@@ -1,6 +1,6 @@
 //! The text as published and the text with a run-time set give the same bytes, and so do its two passes.
 
-use judge::{Answer, Logs, Rules, Thresholds, fixed};
+use judge::{Answer, Logs, Map, Pass, Rules, Thresholds, fixed};
 
 /// Splitmix: a seeded stream of words.
 struct Random(u64);
@@ -87,6 +87,8 @@ fn thresholds(random: &mut Random, sigmas: [f32; 4]) -> Thresholds {
     }
 }
 
+const PASSES: [Pass; 2] = [Pass::Reference, Pass::Streaming];
+
 type Listed = (Answer, Vec<u8>);
 
 fn listed(find: impl Fn(&mut [u8]) -> Answer) -> Listed {
@@ -108,35 +110,35 @@ fn both_builds_and_both_passes_list_the_same_bytes() {
         let set = fixed::set(index);
         let mut random = Random(77 + index as u64);
         let (mut spots, mut maps_with_spots) = (0, 0);
-        for map in 0..600 {
+        for number in 0..600 {
             let (rows, cols) = (random.below(34), random.below(34));
             let owned = levels(&mut random, set.sigmas, rows, cols);
-            let (th, octave) = (thresholds(&mut random, set.sigmas), random.below(6));
-            let given: [&[f32]; 4] = core::array::from_fn(|k| &owned[k][..]);
-            let as_published =
-                listed(|out| fixed::detect(index, th, rows, cols, octave, given, out));
-            let streamed =
-                listed(|out| fixed::detect_stream(index, th, rows, cols, octave, given, out));
+            let map = Map {
+                thresholds: thresholds(&mut random, set.sigmas),
+                rows,
+                cols,
+                octave: random.below(6),
+                levels: core::array::from_fn(|k| &owned[k][..]),
+            };
+            let [as_published, streamed] =
+                PASSES.map(|pass| listed(|out| fixed::detect(index, pass, map, out)));
             assert!(
                 as_published == streamed,
-                "{} map {map}: the two published passes",
+                "{} map {number}: the two published passes",
                 fixed::NAMES[index]
             );
             for rules in [Rules::Published, Rules::Document] {
-                let run =
-                    listed(|out| judge::detect(rules, &set, th, rows, cols, octave, given, out));
-                let run_streamed = listed(|out| {
-                    judge::detect_stream(rules, &set, th, rows, cols, octave, given, out)
-                });
+                let [run, run_streamed] =
+                    PASSES.map(|pass| listed(|out| judge::detect(rules, pass, &set, map, out)));
                 assert!(
                     run == run_streamed,
-                    "{} map {map}: the two passes, {rules:?}",
+                    "{} map {number}: the two passes, {rules:?}",
                     fixed::NAMES[index]
                 );
                 if rules == Rules::Published {
                     assert!(
                         as_published == run,
-                        "{} map {map}: the two builds",
+                        "{} map {number}: the two builds",
                         fixed::NAMES[index]
                     );
                 }
@@ -201,10 +203,16 @@ fn each_candidate_is_listed_or_counted_at_one_gate() {
         let set = fixed::set(index);
         let (rows, cols) = (9 + random.below(20), 9 + random.below(20));
         let owned = levels(&mut random, set.sigmas, rows, cols);
-        let th = thresholds(&mut random, set.sigmas);
-        let given: [&[f32]; 4] = core::array::from_fn(|k| &owned[k][..]);
+        let given = Map {
+            thresholds: thresholds(&mut random, set.sigmas),
+            rows,
+            cols,
+            octave: 0,
+            levels: core::array::from_fn(|k| &owned[k][..]),
+        };
         judge::reset_counts();
-        let run = listed(|out| judge::detect(Rules::Document, &set, th, rows, cols, 0, given, out));
+        let (rules, pass) = (Rules::Document, Pass::Reference);
+        let run = listed(|out| judge::detect(rules, pass, &set, given, out));
         let rejected: u64 = judge::counts().iter().map(|(_, count)| count).sum();
         let candidates = 2 * (rows - 8) * (cols - 8);
         assert_eq!(rejected as usize + count(&run), candidates, "map {map}");

@@ -1,6 +1,6 @@
 //! Document 01's numbers, from the judge.
 
-use judge::{Answer, Logs, Rules, Set, Thresholds, inner};
+use judge::{Answer, Logs, Map, Pass, Rules, Set, Thresholds, inner};
 
 const RULES: [Rules; 2] = [Rules::Published, Rules::Document];
 
@@ -131,6 +131,18 @@ fn number(answer: Answer) -> u32 {
     }
 }
 
+/// The reference's answer on a map of ten columns.
+fn detected(set: &Set, rows: usize, octave: usize, levels: [&[f32]; 4], out: &mut [u8]) -> Answer {
+    let map = Map {
+        thresholds: TH,
+        rows,
+        cols: 10,
+        octave,
+        levels,
+    };
+    judge::detect(Rules::Document, Pass::Reference, set, map, out)
+}
+
 #[test]
 fn detection_refuses_in_the_tables_order() {
     let good = Set::t();
@@ -146,16 +158,7 @@ fn detection_refuses_in_the_tables_order() {
         (&good, 4097, 0, 1),
     ] {
         let mut out = [7; 40];
-        let answer = judge::detect(
-            Rules::Document,
-            set,
-            TH,
-            rows,
-            10,
-            octave,
-            [&level; 4],
-            &mut out,
-        );
+        let answer = detected(set, rows, octave, [&level; 4], &mut out);
         assert_eq!((number(answer), out), (expected, [7; 40]));
     }
 }
@@ -168,7 +171,7 @@ fn short_spot_buffers_keep_their_other_bytes() {
     let levels: [&[f32]; 4] = core::array::from_fn(|k| &pixels[90 * k..90 * (k + 1)]);
     for (room, written) in [(0, 0), (39, 0), (40, 40), (79, 40), (100, 40)] {
         let mut out = vec![0xa5; room];
-        let answer = judge::detect(Rules::Document, &Set::t(), TH, 9, 10, 0, levels, &mut out);
+        let answer = detected(&Set::t(), 9, 0, levels, &mut out);
         assert_eq!(answer, Answer::Done(1));
         assert!(out[written..].iter().all(|&byte| byte == 0xa5) && (written == 0 || out[39] == 0));
     }

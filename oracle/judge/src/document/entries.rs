@@ -3,7 +3,7 @@
 use crate::here::with;
 use crate::record::{self, SIZED, SPOT, Spot};
 use crate::run::offered;
-use crate::{Answer, Logs, Rules, Set, Thresholds, counting};
+use crate::{Answer, Logs, Map, Pass, Rules, Set, counting};
 
 /// The longest side.
 pub const LONGEST: usize = 4096;
@@ -13,13 +13,14 @@ fn refused(number: u32) -> Answer {
 }
 
 /// Detection's refusals, the first that applies: 1, 2, 3, 4.
-pub fn detection_refusal(
-    good: bool,
-    rows: usize,
-    cols: usize,
-    octave: usize,
-    levels: [&[f32]; 4],
-) -> Option<u32> {
+pub fn detection_refusal(good: bool, map: Map) -> Option<u32> {
+    let Map {
+        rows,
+        cols,
+        octave,
+        levels,
+        ..
+    } = map;
     if rows > LONGEST || cols > LONGEST {
         Some(1)
     } else if levels.iter().any(|level| level.len() != rows * cols) {
@@ -41,43 +42,15 @@ pub fn write_spots(spots: &[Spot], out: &mut [u8]) -> Answer {
     Answer::Done(spots.len())
 }
 
-/// Detection by the reference pass.
-#[allow(clippy::too_many_arguments)]
-pub fn detect(
-    rules: Rules,
-    set: &Set,
-    th: Thresholds,
-    rows: usize,
-    cols: usize,
-    octave: usize,
-    levels: [&[f32]; 4],
-    out: &mut [u8],
-) -> Answer {
-    if let Some(number) = detection_refusal(set.good(), rows, cols, octave, levels) {
+/// Detection by one of the passes; the reference's rejections are counted.
+pub fn detect(rules: Rules, pass: Pass, set: &Set, map: Map, out: &mut [u8]) -> Answer {
+    if let Some(number) = detection_refusal(set.good(), map) {
         return refused(number);
     }
-    let find = || offered::detect(th, rows, cols, octave, levels);
-    let spots = with(rules, Logs::Steps, set, || counting::counted(find));
-    write_spots(&spots, out)
-}
-
-/// Detection by the streaming pass on the same levels.
-#[allow(clippy::too_many_arguments)]
-pub fn detect_stream(
-    rules: Rules,
-    set: &Set,
-    th: Thresholds,
-    rows: usize,
-    cols: usize,
-    octave: usize,
-    levels: [&[f32]; 4],
-    out: &mut [u8],
-) -> Answer {
-    if let Some(number) = detection_refusal(set.good(), rows, cols, octave, levels) {
-        return refused(number);
-    }
-    let spots = with(rules, Logs::Steps, set, || {
-        offered::detect_stream(th, rows, cols, octave, levels)
+    let find = || offered::detect(pass, map).1;
+    let spots = with(rules, Logs::Steps, set, || match pass {
+        Pass::Reference => counting::counted(find),
+        Pass::Streaming => find(),
     });
     write_spots(&spots, out)
 }

@@ -2,7 +2,7 @@
 
 use crate::entries::{self, LONGEST};
 use crate::record::SPOT;
-use crate::{Answer, Rules, Set, Thresholds};
+use crate::{Answer, Map, Pass, Rules, Set, Thresholds};
 
 const HEADER: usize = 528 + 4 * 8;
 const PRINTED: usize = 1600;
@@ -55,23 +55,19 @@ fn read(input: &[u8], longest: usize) -> Result<Tile, u32> {
 fn found(tile: &Tile) -> Result<(usize, Vec<u8>), u32> {
     let size = tile.rows * tile.cols;
     let levels = core::array::from_fn(|k| &tile.levels[k * size..(k + 1) * size]);
-    let (rows, cols, octave) = (tile.rows, tile.cols, tile.octave);
-    if let Some(number) = entries::detection_refusal(tile.set.is_some(), rows, cols, octave, levels)
-    {
+    let map = Map {
+        thresholds: tile.thresholds,
+        rows: tile.rows,
+        cols: tile.cols,
+        octave: tile.octave,
+        levels,
+    };
+    if let Some(number) = entries::detection_refusal(tile.set.is_some(), map) {
         return Err(number);
     }
     let set = tile.set.as_ref().ok_or(4u32)?;
     let mut out = vec![0; PRINTED * SPOT];
-    match entries::detect(
-        Rules::Document,
-        set,
-        tile.thresholds,
-        rows,
-        cols,
-        octave,
-        levels,
-        &mut out,
-    ) {
+    match entries::detect(Rules::Document, Pass::Reference, set, map, &mut out) {
         Answer::Done(count) => {
             out.truncate(SPOT * count);
             Ok((count, out))
