@@ -21,22 +21,24 @@ struct Seen {
 /// The families of inner functions beside `inner`.
 const FAMILIES: [&str; 4] = ["turning", "cancelling", "inflected", "floats"];
 
-/// So many cases of the family `inner` for each function, and as many over all of each of `FAMILIES`.
+/// What was seen, by function.
+type All = BTreeMap<&'static str, Seen>;
+
+/// So many cases of the family `inner` for each function, and as many over all of each of `FAMILIES`, shared among the processors.
 pub fn run(seed: u64, count: usize) -> bool {
-    let mut all = BTreeMap::new();
-    for number in 0..FUNCTIONS.len() * count {
-        let case = || expand("inner", seed, number);
-        one(&format!("inner {seed} {number}"), case, &mut all);
-    }
-    for number in 0..count {
-        for family in FAMILIES {
-            let case = || expand(family, seed, number);
-            one(&format!("{family} {seed} {number}"), case, &mut all);
+    let workers = std::thread::available_parallelism().map_or(1, usize::from);
+    let mut all = All::new();
+    std::thread::scope(|scope| {
+        let share = |worker| scope.spawn(move || part(seed, count, worker, workers));
+        let running: Vec<_> = (0..workers).map(share).collect();
+        for worker in running {
+            let seen = worker.join().expect("no comparison panics");
+            seen.into_iter().for_each(|seen| add(&mut all, seen));
         }
-    }
+    });
     let mut sound = true;
     for function in FUNCTIONS {
-        let seen: Seen = all.remove(function).unwrap_or_default();
+        let seen = all.remove(function).unwrap_or_default();
         let seconds = seen.time.as_secs_f64();
         let line = format!(
             "{} cases, {} differ, {seconds:.1} s",
@@ -52,10 +54,32 @@ pub fn run(seed: u64, count: usize) -> bool {
     sound
 }
 
+/// One worker's share of the cases.
+fn part(seed: u64, count: usize, worker: usize, workers: usize) -> All {
+    let mut all = All::new();
+    for number in (worker..FUNCTIONS.len() * count).step_by(workers) {
+        one("inner", seed, number, &mut all);
+    }
+    for number in (worker..count).step_by(workers) {
+        for family in FAMILIES {
+            one(family, seed, number, &mut all);
+        }
+    }
+    all
+}
+
+fn add(all: &mut All, (function, seen): (&'static str, Seen)) {
+    let sum = all.entry(function).or_default();
+    sum.cases += seen.cases;
+    sum.differing += seen.differing;
+    sum.time += seen.time;
+    sum.first = sum.first.take().or(seen.first);
+}
+
 /// One case, counted under its function; the first that differs is told by its words' patterns.
-fn one(name: &str, case: impl Fn() -> Case, all: &mut BTreeMap<&'static str, Seen>) {
+fn one(family: &str, seed: u64, number: usize, all: &mut All) {
     let begun = Instant::now();
-    let case = case();
+    let case = expand(family, seed, number);
     let Some(given) = answer(&mut Probe, &case) else {
         return;
     };
@@ -76,7 +100,7 @@ fn one(name: &str, case: impl Fn() -> Case, all: &mut BTreeMap<&'static str, See
                 .map(|word| format!(" {:08x}", word.to_bits()))
                 .collect();
             let parted = difference(&sound, &given);
-            format!("{name}:{patterns}: {parted}")
+            format!("{family} {seed} {number}:{patterns}: {parted}")
         });
     }
     seen.time += begun.elapsed();
