@@ -1,11 +1,11 @@
 -- No value of binary32 is nearer to the root than `IsRoot`'s. For a value of a units, the rounded root's R units, and the root of M = n * 2 ^ 149:
 -- where a < R the mean of the two is not above the root, and where R < a it is not below: (a + R) ^ 2 against 4 * M. A negative value is farther off than 0. Assumes nothing.
-use mathlib.Core.Path.{_≡_, sym, ap, _∙_, subst}
+use mathlib.Core.Path.{_≡_, refl, sym, ap, _∙_, subst}
 use Prim.Native.Nat.{ℕ, zero, suc, _+_, _-_, _*_, _^_, _≤_, _<_}
-use native.Mathlib.Nat.{le-trans, le-of-eq, le-of-lt, lt-of-le-of-lt, lt-of-not-le, not-le-of-lt, mul-assoc, add-mul, mul-mul-mul-comm, mul-le-mul, mul-le-mul-right, lt-of-mul-lt-mul-right, two-mul, zero-mul, zero-div}
+use native.Mathlib.Nat.{le-trans, le-of-eq, le-of-lt, lt-of-le-of-lt, lt-of-lt-of-le, lt-of-not-le, not-le-of-lt, mul-assoc, mul-pos, add-mul, mul-mul-mul-comm, mul-le-mul, mul-le-mul-right, lt-of-mul-lt-mul-right, two-mul, zero-mul, zero-div}
 use native.Mathlib.Omega.{arith}
 use native.Mathlib.Decide.{decLe}
-use mathlib.Core.Bool.{true, false, true≢false}
+use mathlib.Core.Bool.{Bool, true, false, true≢false}
 use lib.IntN.{ℤ}
 use lib.Dec.{T}
 use lib.Pow.{pow-pos, pow-add, pow-mono, shl-lt}
@@ -13,7 +13,7 @@ use lib.Ieee.{Float, nan, inf, fin, binary32, up, fits, toBits}
 use lib.Ieee.Exact.{HasValue}
 use Rattle.float.specs.Pattern.{leadOf, fieldOf}
 use Rattle.float.specs.Sqrt.{inUnits}
-use Rattle.float.specs.Square.{IsRoot}
+use Rattle.float.specs.Square.{IsRoot, NoNearer}
 use Rattle.float.proofs.Patterns.{lead-in, bits-pos, units-of, units-are}
 
 square-scaled : (x k : ℕ) → x * 2 ^ k * (x * 2 ^ k) ≡ x * x * 2 ^ (2 * k)
@@ -90,6 +90,16 @@ module _ (n : ℕ) (r : Float) (i : IsRoot n r) (a : ℕ) (d : Digits a) where
       let s : (2 * q + 1) * 2 ^ k ≤ a + q * 2 ^ k = le-trans (mul-le-mul-right {m = 2 * q + 1} {n = t .0 + q} (2 ^ k) (omega arith)) (le-of-eq (add-mul (t .0) q (2 ^ k) ∙ ap (λ (y : ℕ). y + q * 2 ^ k) (sym (t .1)))) in
       le-trans (le-of-lt (i .high)) (le-trans (le-of-eq (sym (square-scaled (2 * q + 1) k))) (squares _ _ s))
 
--- the statement over values: r is the root of n units, y any value of a units
-pub closest : (n : ℕ) (r : Float) (i : IsRoot n r) (y : Float) (a : ℕ) → T (fits binary32 y) → HasValue y false a (2 ^ 149) → (a < i .q * 2 ^ i .k → (a + i .q * 2 ^ i .k) * (a + i .q * 2 ^ i .k) ≤ 4 * (n * 2 ^ 149)) × (i .q * 2 ^ i .k < a → 4 * (n * 2 ^ 149) ≤ (a + i .q * 2 ^ i .k) * (a + i .q * 2 ^ i .k))
-closest n r i y a f v = (below n r i a (digits-of y a f v), above n r i a (digits-of y a f v))
+-- a negative value is farther from the root than 0 is
+under-zero : (n : ℕ) (r : Float) (i : IsRoot n r) (a : ℕ) → (i .q * 2 ^ i .k - a) * (i .q * 2 ^ i .k - a) ≤ 4 * (n * 2 ^ 149)
+under-zero n r i a =
+    le-trans (squares _ _ (sub-le (i .q * 2 ^ i .k) a))
+    (below n r i 0 (0, 0, pow-pos 24, refl) (mul-pos (lt-of-lt-of-le (pow-pos 23) (i .full)) (pow-pos (i .k))))
+  where
+    sub-le : (R a : ℕ) → R - a ≤ 0 + R
+    sub-le R a = omega arith
+
+-- the statement over values: r is the root of n units, y any value of binary32, of a units
+pub closest : (n : ℕ) (r : Float) (i : IsRoot n r) (y : Float) (negative : Bool) (a : ℕ) → T (fits binary32 y) → HasValue y negative a (2 ^ 149) → NoNearer negative a (i .q * 2 ^ i .k) (n * 2 ^ 149)
+closest n r i y false a f v = (below n r i a (digits-of y a f v), above n r i a (digits-of y a f v))
+closest n r i y true a f v = under-zero n r i a
