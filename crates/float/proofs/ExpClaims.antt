@@ -11,8 +11,9 @@ use lib.Ieee.Compare.{differs-from-itself}
 use lib.Ieee.Fits.{down-pos, and-l, and-r}
 use lib.Ieee.Bits.{is-true, is-false}
 use lib.Ieee.Exact.{HasValue}
+use Rattle.float.specs.Num.{f0, f1}
 use Rattle.float.specs.Pattern.{unitsOf}
-use Rattle.float.specs.Exp.{fixedOf, seriesOf, upCount, downCount, capped, belowOne, expUp, expDown, expOf}
+use Rattle.float.specs.Exp.{f89, f-104, ln2In30, biasBeforeCarry, fixedOf, seriesOf, upCount, downCount, capped, belowOne, expUp, expDown, expOf}
 use Rattle.float.specs.Claims.{notNegative}
 use Rattle.float.proofs.Floats.{ne-self}
 use Rattle.float.proofs.Patterns.{plus-value}
@@ -23,24 +24,24 @@ pub exp-nan : expOf nan ≡ nan
 unfolding expOf ne
 exp-nan = refl
 
-pub exp-zero : (s : Bool) → expOf (fin s 0 (pos 0)) ≡ fin false 1 (pos 0)
+pub exp-zero : (s : Bool) → expOf (fin s 0 (pos 0)) ≡ f1
 unfolding expOf expUp expDown fixedOf seriesOf capped ne le toBits ofBits
 exp-zero true = refl
 exp-zero false = refl
 
 -- 89 and above, +infinity among them
-pub exp-from-89 : (x : Float) → T (le (fin false 89 (pos 0)) x) → expOf x ≡ inf false
+pub exp-from-89 : (x : Float) → T (le f89 x) → expOf x ≡ inf false
 unfolding expOf
-exp-from-89 x t = rw (is-false (ne x x) (not-T (ne x x) number), is-true (le (fin false 89 (pos 0)) x) t)
+exp-from-89 x t = rw (is-false (ne x x) (not-T (ne x x) number), is-true (le f89 x) t)
   where
-    nothing : T (le (fin false 89 (pos 0)) nan) → ⊥
+    nothing : T (le f89 nan) → ⊥
     nothing u = unfold le in u
 
     number : T (ne x x) → ⊥
-    number d = nothing (subst (λ (y : Float). T (le (fin false 89 (pos 0)) y)) (differs-from-itself x d) t)
+    number d = nothing (subst (λ (y : Float). T (le f89 y)) (differs-from-itself x d) t)
 
 -- -104 and below, -infinity among them
-tests-104 : (x : Float) → T (le x (fin true 13 (pos 3))) → (ne x x ≡ false) × (le (fin false 89 (pos 0)) x ≡ false)
+tests-104 : (x : Float) → T (le x f-104) → (ne x x ≡ false) × (le f89 x ≡ false)
 unfolding le ne isNan
 tests-104 nan t = absurd t
 tests-104 (inf true) t = (refl, refl)
@@ -59,9 +60,9 @@ tests-104 (fin false m e) t =
     clash : (n d : ℕ) → 0 < d → n * 1 ≡ 13 * 2 ^ 3 * d → n * 1 ≡ 0 → ⊥
     clash n d p i j = omega arith
 
-pub exp-to-minus-104 : (x : Float) → T (le x (fin true 13 (pos 3))) → expOf x ≡ fin false 0 (pos 0)
+pub exp-to-minus-104 : (x : Float) → T (le x f-104) → expOf x ≡ f0
 unfolding expOf
-exp-to-minus-104 x t = let e = tests-104 x t in rw (e .0, e .1, is-true (le x (fin true 13 (pos 3))) t)
+exp-to-minus-104 x t = let e = tests-104 x t in rw (e .0, e .1, is-true (le x f-104) t)
 
 -- ---- an answer to a number is a number without a sign
 plain : Float → Bool
@@ -74,6 +75,14 @@ unfolding plain
 of-value nan a c v = absurd v
 of-value (inf s) a c v = absurd v
 of-value (fin s m e) a c v = subst (λ (b : Bool). T (not b)) (sym (v .0)) tt
+
+zero-plain : T (plain f0)
+unfolding plain ofBits
+zero-plain = tt
+
+one-plain : T (plain f1)
+unfolding plain ofBits
+one-plain = tt
 
 of-pattern : (t : ℕ) → t < 0x7f80_0000 → T (plain (ofBits binary32 t))
 of-pattern t h = of-value (ofBits binary32 t) (unitsOf t) (2 ^ 149) (plus-value t h)
@@ -91,7 +100,7 @@ unfolding expDown plain
 down-plain a h = go (eqb a 0)
   where
     left : ℕ
-    left = downCount a * 744261117 - a
+    left = downCount a * ln2In30 - a
 
     left-lt : left < 2 ^ 30
     left-lt = omega arith
@@ -102,22 +111,22 @@ down-plain a h = go (eqb a 0)
     last : downCount a < 152
     last = omega arith
 
-    go : (b : Bool) → T (plain (cond b (fin false 1 (pos 0)) (ofBits binary32 (belowOne (downCount a) (seriesOf left)))))
-    go true = tt
+    go : (b : Bool) → T (plain (cond b f1 (ofBits binary32 (belowOne (downCount a) (seriesOf left)))))
+    go true = one-plain
     go false = of-pattern (belowOne (downCount a) (seriesOf left)) (below-lt (downCount a) (seriesOf left) first last (series-lt left left-lt))
 
 exp-plain : (x : Float) → T (fits binary32 x) → ne x x ≡ false → T (plain (expOf x))
 unfolding expOf expUp plain
-exp-plain x h n = rw n (go (le (fin false 89 (pos 0)) x) (le x (fin true 13 (pos 3))) (ltb b 0x8000_0000) refl refl)
+exp-plain x h n = rw n (go (le f89 x) (le x f-104) (ltb b 0x8000_0000) refl refl)
   where
     b : ℕ
     b = toBits binary32 x
 
-    go : (p q r : Bool) → le x (fin true 13 (pos 3)) ≡ q → ltb b 0x8000_0000 ≡ r
-        → T (plain (cond p (inf false) (cond q (fin false 0 (pos 0)) (cond r (expUp (fixedOf b)) (expDown (fixedOf (b - 0x8000_0000)))))))
+    go : (p q r : Bool) → le x f-104 ≡ q → ltb b 0x8000_0000 ≡ r
+        → T (plain (cond p (inf false) (cond q f0 (cond r (expUp (fixedOf b)) (expDown (fixedOf (b - 0x8000_0000)))))))
     go true q r i j = tt
-    go false true r i j = tt
-    go false false true i j = capped-plain ((upCount (fixedOf b) + 126) * 2 ^ 23 + seriesOf (fixedOf b - upCount (fixedOf b) * 744261117) / 2 ^ 7)
+    go false true r i j = zero-plain
+    go false false true i j = capped-plain ((upCount (fixedOf b) + biasBeforeCarry) * 2 ^ 23 + seriesOf (fixedOf b - upCount (fixedOf b) * ln2In30) / 2 ^ 7)
     go false false false i j = down-plain (fixedOf (b - 0x8000_0000)) (fixed-lt (b - 0x8000_0000) (above-minus-104 x h n i (ltb-false b 0x8000_0000 j)))
 
 pub exp-never-negative : (x : Float) → T (fits binary32 x) → T (notNegative (expOf x))

@@ -11,10 +11,10 @@ use lib.Ieee.{Float, nan, inf, fin, binary32, up, down, lt, eq, ne, isNan, fits,
 use lib.Ieee.Fits.{up-pos}
 use lib.Ieee.Bits.{is-true}
 use borrow.Author.Tests.{lt-ltb, le-ltb, ne-eqb}
-use Rattle.float.specs.Log.{zeroF}
+use Rattle.float.specs.Num.{f0}
 
 -- ---- constants
-pub zero-is : ofBits binary32 0 ≡ zeroF
+pub zero-is : f0 ≡ fin false 0 (pos 0)
 unfolding ofBits odd
 zero-is = refl
 
@@ -61,22 +61,22 @@ lt-sum a b h = omega arith
 pos-ne : (a : ℕ) → 0 < a → a ≡ 0 → ⊥
 pos-ne a h e = omega arith
 
-pub lt-zero : (s : Bool) (m : ℕ) (e : ℤ) → lt (fin s (suc m) e) zeroF ≡ s
-unfolding lt
+pub lt-zero : (s : Bool) (m : ℕ) (e : ℤ) → lt (fin s (suc m) e) f0 ≡ s
+unfolding lt ofBits
 lt-zero true m e = lt-ltb 0 (suc m * up e * 1 + 0 * 1 * down e) (lt-sum (suc m * up e * 1) (0 * 1 * down e) (num-pos m e))
 lt-zero false m e = rw (zero-mul (down e)) (le-ltb (suc m * up e * 1) 0 (omega arith))
 
-pub eq-zero : (s : Bool) (m : ℕ) (e : ℤ) → eq (fin s (suc m) e) zeroF ≡ false
-unfolding eq
+pub eq-zero : (s : Bool) (m : ℕ) (e : ℤ) → eq (fin s (suc m) e) f0 ≡ false
+unfolding eq ofBits
 eq-zero s m e = rw (zero-mul (down e), ne-eqb (suc m * up e * 1) 0 (pos-ne (suc m * up e * 1) (num-pos m e)))
 
-pub zero-lt-zero : (s : Bool) (e : ℤ) → lt (fin s 0 e) zeroF ≡ false
-unfolding lt
+pub zero-lt-zero : (s : Bool) (e : ℤ) → lt (fin s 0 e) f0 ≡ false
+unfolding lt ofBits
 zero-lt-zero true e = rw (zero-mul (up e), zero-mul (down e))
 zero-lt-zero false e = rw (zero-mul (up e), zero-mul (down e))
 
-pub zero-eq-zero : (s : Bool) (e : ℤ) → eq (fin s 0 e) zeroF ≡ true
-unfolding eq
+pub zero-eq-zero : (s : Bool) (e : ℤ) → eq (fin s 0 e) f0 ≡ true
+unfolding eq ofBits
 zero-eq-zero true e = rw (zero-mul (up e), zero-mul (down e))
 zero-eq-zero false e = rw (zero-mul (up e), zero-mul (down e))
 

@@ -9,12 +9,13 @@ use lib.IntN.{pos}
 use lib.Dec.{T, ltb, leb, leb→le, nleb→lt, lit<}
 use lib.Pow.{pow-add, pow-pos, pow-mono, pow-lt}
 use lib.Count.{leadingZeros}
-use lib.Ieee.{Float, nan, inf, fin, binary32, up, down, neg, toBits, fits, isNan, lt, eq, ne}
+use lib.Ieee.{Float, nan, inf, fin, binary32, up, down, neg, ofBits, toBits, fits, isNan, lt, eq, ne}
 use lib.Ieee.Bits.{ofBits-toBits}
 use lib.Ieee.Exact.{HasValue}
 use lib.Ieee.Positive.{positive, num, den, den-pos, value→cross}
+use Rattle.float.specs.Num.{f0}
 use Rattle.float.specs.Pattern.{leadOf, fieldOf, unitsOf}
-use Rattle.float.specs.Log.{zeroF, wideOf, expoOf, digitsOf, squared, scaledOf, joined, log2Pos, log2Of}
+use Rattle.float.specs.Log.{wideOf, expoOf, digitsOf, squared, scaledOf, joined, log2Pos, log2Of}
 use Rattle.float.specs.Claims.{Octave, Between, Exactly}
 use Rattle.float.specs.Claims as claims
 use Rattle.float.proofs.Floats.{ne-self, lt-zero, eq-zero}
@@ -28,27 +29,27 @@ pub log2-nan : log2Of nan ≡ nan
 unfolding log2Of ne
 log2-nan = refl
 
-pub log2-negative : (x : Float) → T (lt x zeroF) → log2Of x ≡ nan
+pub log2-negative : (x : Float) → T (lt x f0) → log2Of x ≡ nan
 unfolding log2Of
-log2-negative x t = go (ne x x) (lt x zeroF) t
+log2-negative x t = go (ne x x) (lt x f0) t
   where
-    go : (a b : Bool) → T b → cond a nan (cond b nan (cond (eq x zeroF) (inf true) (cond (eq x (inf false)) (inf false) (log2Pos (toBits binary32 x))))) ≡ nan
+    go : (a b : Bool) → T b → cond a nan (cond b nan (cond (eq x f0) (inf true) (cond (eq x (inf false)) (inf false) (log2Pos (toBits binary32 x))))) ≡ nan
     go true b t = refl
     go false true t = refl
     go false false t = absurd t
 
 pub log2-zero : (s : Bool) → log2Of (fin s 0 (pos 0)) ≡ inf true
-unfolding log2Of ne lt eq
+unfolding log2Of ne lt eq ofBits
 log2-zero true = refl
 log2-zero false = refl
 
 pub log2-infinity : log2Of (inf false) ≡ inf false
-unfolding log2Of ne lt eq
+unfolding log2Of ne lt eq ofBits
 log2-infinity = refl
 
 -- ---- a positive x goes to the steps
-pub to-steps : (x : Float) → T (positive x) → (ne x x ≡ false) × (lt x zeroF ≡ false) × (eq x zeroF ≡ false) × (eq x (inf false) ≡ false)
-unfolding eq isNan
+pub to-steps : (x : Float) → T (positive x) → (ne x x ≡ false) × (lt x f0 ≡ false) × (eq x f0 ≡ false) × (eq x (inf false) ≡ false)
+unfolding eq isNan ofBits
 to-steps nan p = absurd p
 to-steps (inf s) p = absurd p
 to-steps (fin true m e) p = absurd p

@@ -5,8 +5,9 @@ use Prim.Native.Nat.{ℕ}
 use mathlib.Core.Bool.{Bool, true, false, not, cond}
 use lib.IntN.{ℤ, pos}
 use lib.Dec.{T}
-use lib.Ieee.{Float, nan, inf, fin, lt, eq, neg, isNan}
+use lib.Ieee.{Float, nan, inf, fin, ofBits, lt, eq, neg, isNan}
 use lib.Ieee.Bits.{is-true, is-false}
+use Rattle.float.specs.Num.{f0}
 use Rattle.float.specs.Small.{finite, absOf, minOf, maxOf, clampOf}
 use Rattle.float.specs.Claims.{notNegative}
 use Rattle.float.proofs.Order.{lt-nan, equal-number, equal-not-below, equal-not-above, below-number, below-one-way, not-below-over}
@@ -29,8 +30,8 @@ pub abs-nan : absOf nan ≡ nan
 unfolding absOf
 abs-nan = refl
 
-pub abs-zero : (s : Bool) → absOf (fin s 0 (pos 0)) ≡ fin false 0 (pos 0)
-unfolding absOf
+pub abs-zero : (s : Bool) → absOf (fin s 0 (pos 0)) ≡ f0
+unfolding absOf ofBits
 abs-zero s = refl
 
 pub abs-either : (x : Float) → (absOf x ≡ x) ⊎ (absOf x ≡ neg x)

@@ -15,7 +15,7 @@ use Rattle.float.specs.Root.{nearRoot}
 use Rattle.float.specs.Pattern.{leadOf, fieldOf, unitsOf}
 use Rattle.float.specs.Sqrt.{inUnits, scale, radicand, rootUnits, rootPattern, sqrtOf}
 use Rattle.float.specs.Square.{IsRoot}
-use Rattle.float.specs.Log.{zeroF}
+use Rattle.float.specs.Num.{f0}
 use Rattle.float.proofs.Floats.{lt-zero, eq-zero, zero-lt-zero}
 use Rattle.float.proofs.Roots.{Nearest, near-nearest}
 use Rattle.float.proofs.Scaled.{scale-is, radicand-is, under, under-is, under-lt, under-ge, digits-low, digits-high, pattern-reads}
@@ -26,8 +26,8 @@ pub sqrt-nan : sqrtOf nan ≡ nan
 unfolding sqrtOf
 sqrt-nan = refl
 
-pub sqrt-zero : (x : Float) → T (eq x zeroF) → sqrtOf x ≡ x
-unfolding sqrtOf eq
+pub sqrt-zero : (x : Float) → T (eq x f0) → sqrtOf x ≡ x
+unfolding sqrtOf eq ofBits
 sqrt-zero nan t = absurd t
 sqrt-zero (inf s) t = absurd t
 sqrt-zero (fin s zero e) t = refl
@@ -37,8 +37,8 @@ pub sqrt-infinity : sqrtOf (inf false) ≡ inf false
 unfolding sqrtOf
 sqrt-infinity = refl
 
-pub sqrt-negative : (x : Float) → T (lt x zeroF) → sqrtOf x ≡ nan
-unfolding sqrtOf lt
+pub sqrt-negative : (x : Float) → T (lt x f0) → sqrtOf x ≡ nan
+unfolding sqrtOf lt ofBits
 sqrt-negative nan t = absurd t
 sqrt-negative (inf true) t = refl
 sqrt-negative (inf false) t = absurd t

@@ -9,7 +9,7 @@ use mathlib.Core.Bool.{Bool, true, false, not, cond}
 use lib.Dec.{T, ltb, ltb→lt, nltb→le, lit<}
 use lib.Pow.{pow-mono, shr-lt}
 use Rattle.float.specs.Log.{next, squared, digitsOf}
-use Rattle.float.specs.Exp.{fixedOf, stepOf, seriesOf, belowOne}
+use Rattle.float.specs.Exp.{biasBeforeCarry, fixedOf, stepOf, seriesOf, belowOne}
 
 -- ---- log2: a square, its top digit, and the next number
 pub sq-lt : (y : ℕ) → y < 2 ^ 32 → y * y < 2 ^ 64
@@ -95,7 +95,7 @@ pub below-lt : (n p : ℕ) → 1 ≤ n → n < 152 → p < 2 ^ 32 → belowOne n
 unfolding belowOne
 below-lt n p i l h = go (ltb n 127) (ltb→lt n 127) (nltb→le n 127)
   where
-    go : (b : Bool) → (T b → n < 127) → (T (not b) → 127 ≤ n) → cond b ((126 - n) * 2 ^ 23 + p / 2 ^ 7) (p / 2 ^ (n - 119)) < 0x7f80_0000
+    go : (b : Bool) → (T b → n < 127) → (T (not b) → 127 ≤ n) → cond b ((biasBeforeCarry - n) * 2 ^ 23 + p / 2 ^ 7) (p / 2 ^ (n - 119)) < 0x7f80_0000
     go true q r = omega arith
     go false q r = lt-trans (cut-lt n p (r tt) h) (lit< tt)
 

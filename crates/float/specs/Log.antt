@@ -4,12 +4,9 @@ use mathlib.Core.Bool.{true, false, cond}
 use lib.IntN.{pos}
 use lib.Dec.{leb, ltb}
 use lib.Count.{leadingZeros}
-use lib.Ieee.{Float, nan, inf, fin, binary32, mul, neg, ofInt, ofBits, toBits, lt, eq, ne}
+use lib.Ieee.{Float, nan, inf, binary32, mul, neg, ofInt, ofBits, toBits, lt, eq, ne}
+use Rattle.float.specs.Num.{f0}
 use Rattle.float.specs.Pattern.{leadOf, fieldOf}
-
--- +0
-abbrev pub zeroF : Float
-zeroF = fin false 0 (pos 0)
 
 -- y / 2^31 squared, and halved where the square is 2 or more; rounded down
 abbrev pub next : ℕ → ℕ
@@ -53,4 +50,4 @@ log2Pos b = joined (expoOf b) (digitsOf 21 (wideOf b))
 -- NaN or below 0 gives NaN, either zero minus infinity, infinity itself
 unfoldable pub log2Of : Float → Float
 unfolding log2Pos
-log2Of x = cond (ne x x) nan (cond (lt x zeroF) nan (cond (eq x zeroF) (inf true) (cond (eq x (inf false)) (inf false) (log2Pos (toBits binary32 x)))))
+log2Of x = cond (ne x x) nan (cond (lt x f0) nan (cond (eq x f0) (inf true) (cond (eq x (inf false)) (inf false) (log2Pos (toBits binary32 x)))))

@@ -5,10 +5,9 @@ use Prim.Native.Nat.{_-_, _<_}
 use native.Mathlib.Nat.{lt-of-le-of-lt, le-of-eq, lt-trans}
 use borrow.Author.Tests.{lt-ltb, le-ltb}
 use lib.Dec.{T, lit<}
-use lib.IntN.{pos}
-use lib.Ieee.{fin, binary32, ofBits, toBits, div, neg, fits, le}
+use lib.Ieee.{binary32, ofBits, toBits, div, neg, fits, le}
 use lib.Ieee.Compare.{differs-from-itself}
-use Rattle.float.specs.Exp.{expUp, expDown, expOf}
+use Rattle.float.specs.Exp.{f89, f-104, expUp, expDown, expOf}
 use Rattle.float.proofs.Floats.{not-nan}
 use Rattle.float.proofs.Places.{below-89, above-minus-104}
 use Rattle.float.proofs.Steps.{fixed-lt}
@@ -34,11 +33,11 @@ float-to-bits-b : tie.Need-float-to-bits-b
 float-to-bits-b c = not-nan (c .before .before .before .args .x) (c .before .before .if1 .left)
 
 -- the two tests that failed, with the numbers as the definition writes them
-under : (c : tie.Else3) → le (fin false 89 (pos 0)) (c .before .before .before .args .x) ≡ false
+under : (c : tie.Else3) → le f89 (c .before .before .before .args .x) ≡ false
 unfolding ofBits
 under c = c .before .if2 .left
 
-over : (c : tie.Else3) → le (c .before .before .before .args .x) (fin true 13 (pos 3)) ≡ false
+over : (c : tie.Else3) → le (c .before .before .before .args .x) f-104 ≡ false
 unfolding ofBits neg
 over c = c .if3 .left
 

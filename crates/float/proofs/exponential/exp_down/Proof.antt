@@ -4,7 +4,7 @@ use Prim.Native.Nat.{ℕ, _+_, _-_, _*_, _/_, _^_, _≤_, _<_}
 use native.Mathlib.Omega.{arith}
 use borrow.Author.Tests.{lt-ltb, le-ltb, eq-eqb, ne-eqb}
 use lib.Ieee.{binary32, ofBits}
-use Rattle.float.specs.Exp.{downCount, seriesOf, belowOne, expDown}
+use Rattle.float.specs.Exp.{ln2In30, biasBeforeCarry, downCount, seriesOf, belowOne, expDown}
 use Rattle.float.proofs.Patterns.{not-nan-pattern}
 use Rattle.float.proofs.Steps.{cut-lt}
 use borrow.Author.Needs.{needs}
@@ -60,7 +60,7 @@ cast-result-2 c = omega (arith, cut c)
 float-from-bits-result-2 : tie.Need-float-from-bits-result-2
 float-from-bits-result-2 c = not-nan-pattern _ (omega (arith, cut c))
 
-below-yes : (n p : ℕ) → n < 127 → (126 - n) * 2 ^ 23 + p / 2 ^ 7 ≡ belowOne n p
+below-yes : (n p : ℕ) → n < 127 → (biasBeforeCarry - n) * 2 ^ 23 + p / 2 ^ 7 ≡ belowOne n p
 unfolding belowOne
 below-yes n p h = simp (lt-ltb n 127 h)
 
@@ -68,7 +68,7 @@ below-no : (n p : ℕ) → 127 ≤ n → p / 2 ^ (n - 119) ≡ belowOne n p
 unfolding belowOne
 below-no n p h = simp (le-ltb n 127 h)
 
-same : (a s : ℕ) → (a ≡ 0 → ⊥) → s ≡ seriesOf (downCount a * 744261117 - a) → ofBits binary32 (belowOne (downCount a) s) ≡ expDown a
+same : (a s : ℕ) → (a ≡ 0 → ⊥) → s ≡ seriesOf (downCount a * ln2In30 - a) → ofBits binary32 (belowOne (downCount a) s) ≡ expDown a
 unfolding expDown
 same a s n e = simp (ne-eqb a 0 n) (ap (λ (p : ℕ). ofBits binary32 (belowOne (downCount a) p)) e)
 

@@ -4,7 +4,7 @@ use Prim.Native.Nat.{ℕ, _+_, _-_, _*_, _/_, _^_, _≤_, _<_}
 use native.Mathlib.Nat.{le-of-lt}
 use borrow.Author.Tests.{lt-ltb, le-ltb}
 use lib.Ieee.{binary32, ofBits, div}
-use Rattle.float.specs.Exp.{upCount, seriesOf, capped, expUp}
+use Rattle.float.specs.Exp.{ln2In30, biasBeforeCarry, upCount, seriesOf, capped, expUp}
 use Rattle.float.proofs.Patterns.{not-nan-pattern}
 use borrow.Author.Needs.{needs}
 use Rattle.float.proofs.exponential.exp_up.Statement.{statement}
@@ -45,9 +45,9 @@ capped-no t h = simp (le-ltb t 0x7f80_0000 h)
 float-from-bits-result : tie.Need-float-from-bits-result
 float-from-bits-result c = not-nan-pattern _ (le-of-lt (c .if1 .taken))
 
-same : (a s : ℕ) → s ≡ seriesOf (a - upCount a * 744261117) → capped ((upCount a + 126) * 2 ^ 23 + s / 2 ^ 7) ≡ expUp a
+same : (a s : ℕ) → s ≡ seriesOf (a - upCount a * ln2In30) → capped ((upCount a + biasBeforeCarry) * 2 ^ 23 + s / 2 ^ 7) ≡ expUp a
 unfolding expUp
-same a s e = ap (λ (p : ℕ). capped ((upCount a + 126) * 2 ^ 23 + p / 2 ^ 7)) e
+same a s e = ap (λ (p : ℕ). capped ((upCount a + biasBeforeCarry) * 2 ^ 23 + p / 2 ^ 7)) e
 
 returns : tie.Need-returns
 returns c = capped-yes _ (c .if1 .taken) ∙ same (c .before .before .args .a) (c .before .series .result) (c .before .series .ensures .0)

@@ -8,7 +8,7 @@ use lib.Ieee.{Float, nan, inf, binary32, fits, ofBits, toBits}
 use lib.Ieee.Compare.{differs-from-itself}
 use lib.Ieee.Positive.{positive}
 use Rattle.float.specs.Sqrt.{sqrtOf}
-use Rattle.float.proofs.Floats.{zero-is, inf-is, nan-is, not-nan, is-inf}
+use Rattle.float.proofs.Floats.{inf-is, nan-is, not-nan, is-inf}
 use Rattle.float.proofs.Patterns.{not-nan-pattern, positive-bits}
 use Rattle.float.proofs.Places.{is-positive}
 use Rattle.float.proofs.Scaled.{pattern-lt}
@@ -30,10 +30,10 @@ returns : tie.Need-returns
 returns c = own (c .before .args .x) nan (differs-from-itself (c .before .args .x) (says _ (c .if1 .taken))) sqrt-nan
 
 returns-2 : tie.Need-returns-2
-returns-2 c = sym (sqrt-zero (c .before .before .args .x) (says _ (rw zero-is at (c .if2 .taken))))
+returns-2 c = sym (sqrt-zero (c .before .before .args .x) (says _ (c .if2 .taken)))
 
 returns-3 : tie.Need-returns-3
-returns-3 c = nan-is ∙ sym (sqrt-negative (c .before .before .before .args .x) (says _ (rw zero-is at (c .if3 .taken))))
+returns-3 c = nan-is ∙ sym (sqrt-negative (c .before .before .before .args .x) (says _ (c .if3 .taken)))
 
 returns-4 : tie.Need-returns-4
 returns-4 c = let x = c .before .before .before .before .args .x in own x (inf false) (is-inf x (rw inf-is at (c .if4 .taken))) sqrt-infinity
@@ -42,7 +42,7 @@ float-to-bits-root-bits : tie.Need-float-to-bits-root-bits
 float-to-bits-root-bits c = not-nan (c .before .before .before .before .args .x) (c .before .before .before .if1 .left)
 
 plus : (c : tie.Else4) → T (positive (c .before .before .before .before .args .x))
-plus c = is-positive (c .before .before .before .before .args .x) (c .before .before .before .if1 .left) (rw zero-is at (c .before .if3 .left)) (rw zero-is at (c .before .before .if2 .left)) (rw inf-is at (c .if4 .left))
+plus c = is-positive (c .before .before .before .before .args .x) (c .before .before .before .if1 .left) (c .before .if3 .left) (c .before .before .if2 .left) (rw inf-is at (c .if4 .left))
 
 placed : (c : tie.Else4) → (0 < toBits binary32 (c .before .before .before .before .args .x)) × (toBits binary32 (c .before .before .before .before .args .x) < 0x7f80_0000)
 placed c = let s = c .before .before .before .before in positive-bits (s .args .x) (held s) (plus c)
