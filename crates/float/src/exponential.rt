@@ -3,6 +3,15 @@ ghost use mathlib.Core.Path.{_≡_};
 ghost use Prim.Native.Nat.{_+_, _*_, _^_, _≤_, _<_};
 ghost use Rattle.float.specs.Exp.{fixedOf, stepOf, seriesOf, expUp, expDown, expOf};
 
+// ln 2 in units of 2^-30, rounded down.
+const LN_2: u64 = 744261117;
+// 1 / ln 2 in units of 2^-26, rounded down and up.
+const INVERSE_DOWN: u64 = 96817625;
+
+const INVERSE_UP: u64 = 96817626;
+// One less than the exponent's bias: the leading digit of the significand that is added to the exponent's field carries the missing one.
+const BIAS_BEFORE_CARRY: u64 = 126;
+
 // The magnitude of the pattern m in units of 2^-30, rounded down.
 fn fixed(m: u32) -> u64
     requires { ⌜ m < 0x42d0_0000 ⌝ }
@@ -47,9 +56,9 @@ fn exp_up(a: u64) -> f32
     requires { ⌜ a < 104 * 2 ^ 30 ⌝ }
     ensures { λ r. ⌜ r ≡ expUp a ⌝ }
 {
-    let n = (a * 96817625) >> 56;
-    let p = series(a - n * 744261117);
-    let t = (n + 126) * 0x80_0000 + (p >> 7);
+    let n = (a * INVERSE_DOWN) >> 56;
+    let p = series(a - n * LN_2);
+    let t = (n + BIAS_BEFORE_CARRY) * 0x80_0000 + (p >> 7);
     if t < 0x7f80_0000 {
         f32::from_bits(t as u32)
     } else {
@@ -65,10 +74,10 @@ fn exp_down(a: u64) -> f32
     if a == 0 {
         return 1.0;
     }
-    let n = ((a * 96817626) >> 56) + 1;
-    let p = series(n * 744261117 - a);
+    let n = ((a * INVERSE_UP) >> 56) + 1;
+    let p = series(n * LN_2 - a);
     if n < 127 {
-        f32::from_bits(((126 - n) * 0x80_0000 + (p >> 7)) as u32)
+        f32::from_bits(((BIAS_BEFORE_CARRY - n) * 0x80_0000 + (p >> 7)) as u32)
     } else {
         f32::from_bits((p >> (n - 119)) as u32)
     }
