@@ -6,14 +6,14 @@ use Rattle.float.specs.Small.{finite, absOf}
 use Rattle.float.specs.Sqrt.{sqrtOf}
 use Rattle.float.specs.Num.{_⊖_, _⊗_, _⊘_, f0, f1, f2, f6, f1e-6, sqrt2}
 use Rattle.fit.specs.Cubic.{_at_, hornerOf, discriminantOf}
-use Rattle.fit.specs.Prims.{Prims, ours}
+use Rattle.fit.specs.Prims.{Prims, ours, bandCut, bandEnds, turningPoint}
 use Rattle.fit.specs.declared.Band.{Band}
 use Rattle.fit.specs.declared.Stationary.{Stationary}
 use Rattle.fit.specs.declared.Stationary.the-variants.{At, Nowhere}
 
 -- from sigma over the root of 2 to sigma times it, cut to the sigmas g
 unfoldable pub bandBy : Prims → List Float → Float → Band
-bandBy p g s = record { low = p .maxP 2 (s ⊘ sqrt2) (g at 0); high = p .minP 2 (s ⊗ sqrt2) (g at 3) }
+bandBy p g s = record { low = p .maxP bandCut (s ⊘ sqrt2) (g at 0); high = p .minP bandCut (s ⊗ sqrt2) (g at 3) }
 
 abbrev pub bandOf : List Float → Float → Band
 bandOf = bandBy ours
@@ -36,7 +36,7 @@ stationaryOf k isMax =
 
 -- the better of the ends' value and the stationary point's, where the point is strictly inside the band
 unfoldable pub betterBy : Prims → List Float → Float → Float → Float → Float → Stationary → Float
-betterBy p k sign low high ends (At s) = cond (lt low s && lt s high) (p .maxP 4 ends (sign ⊗ hornerOf k s)) ends
+betterBy p k sign low high ends (At s) = cond (lt low s && lt s high) (p .maxP turningPoint ends (sign ⊗ hornerOf k s)) ends
 betterBy p k sign low high ends Nowhere = ends
 
 -- The largest value of k over the band for a maximum, the smallest for a minimum. A non-finite coefficient makes it NaN.
@@ -45,7 +45,7 @@ extremeBy p k low high isMax =
     let sign = signOf isMax in
     cond
     (finiteCubic k)
-    (sign ⊗ betterBy p k sign low high (p .maxP 3 (sign ⊗ hornerOf k low) (sign ⊗ hornerOf k high)) (stationaryOf k isMax))
+    (sign ⊗ betterBy p k sign low high (p .maxP bandEnds (sign ⊗ hornerOf k low) (sign ⊗ hornerOf k high)) (stationaryOf k isMax))
     nan
 
 abbrev pub extremeOf : List Float → Float → Float → Bool → Float

@@ -7,7 +7,7 @@ use Rattle.float.specs.Small.{finite, absOf}
 use Rattle.float.specs.Sqrt.{sqrtOf}
 use Rattle.float.specs.Num.{_⊕_, _⊖_, _⊗_, _⊘_, f0, f2, f6, f1e-6}
 use Rattle.fit.specs.Cubic.{_at_, coeffsOf, hornerOf, discriminantOf, curvatureOf}
-use Rattle.fit.specs.Prims.{Prims, ours}
+use Rattle.fit.specs.Prims.{Prims, ours, endSamples, underRoot}
 use Rattle.fit.specs.declared.Envelope.{Envelope}
 
 -- s lies in the closed range
@@ -16,7 +16,7 @@ within low high s = le low s && le s high
 
 -- the envelope of the two end samples
 unfoldable pub endsBy : Prims → Float → Float → Envelope
-endsBy p l0 l3 = record { emin = p .minP 0 l0 l3; emax = p .maxP 0 l0 l3; smin = f0; smax = f0 }
+endsBy p l0 l3 = record { emin = p .minP endSamples l0 l3; emax = p .maxP endSamples l0 l3; smin = f0; smax = f0 }
 
 -- where the test holds, the envelope's least value is v, at s
 unfoldable pub putLow : Bool → Float → Float → Envelope → Envelope
@@ -58,7 +58,7 @@ turnsOf k g root e =
 
 -- of the cubic k, the sigmas g and the end samples
 unfoldable pub shapeBy : Prims → List Float → List Float → Float → Float → Envelope
-shapeBy p k g l0 l3 = turnsOf k g (sqrtOf (p .maxP 1 (discriminantOf k) f0)) (endsBy p l0 l3)
+shapeBy p k g l0 l3 = turnsOf k g (sqrtOf (p .maxP underRoot (discriminantOf k) f0)) (endsBy p l0 l3)
 
 -- of the samples l, with the table t
 unfoldable pub envelopeBy : Prims → List Float → List Float → List Float → Envelope

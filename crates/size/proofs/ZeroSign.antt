@@ -11,7 +11,7 @@ use Rattle.tables.specs.declared.Set.{Set}
 use Rattle.fit.specs.Cubic.{_at_}
 use Rattle.fit.specs.Near.{Near, same, zeros}
 use Rattle.fit.specs.Prims.{Prims, Allowed, ours}
-use Rattle.size.specs.Four.{usable, allUsable, squaresOf, quotientsOf, rootsOf, largestBy}
+use Rattle.size.specs.Four.{lastCall, firstPair, lastPair, usable, allUsable, squaresOf, quotientsOf, rootsOf, largestBy}
 use Rattle.size.specs.Profile.{usableRoots, scaledBy, statisticBy}
 use Rattle.size.specs.Correct.{blendBetaBy, correctedBy, correctBy}
 
@@ -40,8 +40,8 @@ module _ (p : Prims) (allowed : Allowed p) where
   max-same call a b h k = positive-alone (allowed .high call a b) (max-positive a b h k)
 
   module _ (a b c d : Float) (h : lt f0 a ≡ true) (i : lt f0 b ≡ true) (j : lt f0 c ≡ true) (k : lt f0 d ≡ true) where
-    largest-of-positive : p .maxP 0 (p .maxP 1 a b) (p .maxP 2 c d) ≡ maxOf (maxOf a b) (maxOf c d)
-    largest-of-positive = rw (max-same 1 a b h i, max-same 2 c d j k) (max-same 0 (maxOf a b) (maxOf c d) (max-positive a b h i) (max-positive c d j k))
+    largest-of-positive : p .maxP lastCall (p .maxP firstPair a b) (p .maxP lastPair c d) ≡ maxOf (maxOf a b) (maxOf c d)
+    largest-of-positive = rw (max-same firstPair a b h i, max-same lastPair c d j k) (max-same lastCall (maxOf a b) (maxOf c d) (max-positive a b h i) (max-positive c d j k))
 
   largest-same : (v : List Float) → allUsable v ≡ true → largestBy p v ≡ largestBy ours v
   unfolding largestBy allUsable

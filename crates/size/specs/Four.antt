@@ -1,16 +1,13 @@
 -- Four floats at a time, each operation rounded once. Definitions only.
+use Prim.Native.Nat.{ℕ}
 use mathlib.Core.List.{List, [], _∷_}
 use mathlib.Core.Bool.{Bool, _&&_}
-use lib.Ieee.{Float, binary32, ofBits, lt}
+use lib.Ieee.{Float, lt}
 use Rattle.float.specs.Small.{finite, absOf}
 use Rattle.float.specs.Sqrt.{sqrtOf}
-use Rattle.float.specs.Num.{_⊕_, _⊖_, _⊗_, _⊘_, f0}
+use Rattle.float.specs.Num.{_⊕_, _⊖_, _⊗_, _⊘_, f0, f¼}
 use Rattle.fit.specs.Cubic.{_at_}
 use Rattle.fit.specs.Prims.{Prims, ours}
-
--- 0.25
-abbrev pub f¼ : Float
-f¼ = ofBits binary32 0x3e800000
 
 -- a function of each
 abbrev pub each : (Float → Float) → List Float → List Float
@@ -72,9 +69,21 @@ dotOf v w = sumOf (productsOf v w)
 unfoldable pub energyOf : List Float → Float
 energyOf v = sumOf (squaresOf v)
 
+-- which call of max it is, in the largest of four: of the two that are left
+abbrev pub lastCall : ℕ
+lastCall = 0
+
+-- of the first two
+abbrev pub firstPair : ℕ
+firstPair = 1
+
+-- of the last two
+abbrev pub lastPair : ℕ
+lastPair = 2
+
 -- the largest: that of the first two and that of the last two compared
 unfoldable pub largestBy : Prims → List Float → Float
-largestBy p v = p .maxP 0 (p .maxP 1 (v at 0) (v at 1)) (p .maxP 2 (v at 2) (v at 3))
+largestBy p v = p .maxP lastCall (p .maxP firstPair (v at 0) (v at 1)) (p .maxP lastPair (v at 2) (v at 3))
 
 -- the same by this build's max
 abbrev pub largestOf : List Float → Float

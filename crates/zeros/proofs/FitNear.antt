@@ -8,7 +8,7 @@ use Rattle.float.specs.Small.{absOf, minOf, maxOf}
 use Rattle.float.specs.Sqrt.{sqrtOf}
 use Rattle.float.specs.Num.{f0, f1e-6}
 use Rattle.fit.specs.Near.{Near, same}
-use Rattle.fit.specs.Prims.{Prims, Allowed, ours}
+use Rattle.fit.specs.Prims.{Prims, Allowed, ours, endSamples, underRoot, bandCut, bandEnds, turningPoint, innerPair, outerPair}
 use Rattle.fit.specs.Cubic.{_at_, coeffsOf, hornerOf, discriminantOf}
 use Rattle.fit.specs.Envelope.{endsBy, putLow, putHigh, turnOf, firstOf, turnsOf, shapeBy, envelopeBy, envelopeOf}
 use Rattle.fit.specs.Band.{bandBy, finiteCubic, signOf, stationaryOf, betterBy, extremeBy}
@@ -68,14 +68,14 @@ module _ (p : Prims) (A : Allowed p) where
 
   ends~ : (l0 l3 : Float) → EnvelopeNear (endsBy p l0 l3) (endsBy ours l0 l3)
   unfolding endsBy
-  ends~ l0 l3 = record { emin = min-by~ 0 same same; emax = max-by~ 0 same same; smin = refl; smax = refl }
+  ends~ l0 l3 = record { emin = min-by~ endSamples same same; emax = max-by~ endSamples same same; smin = refl; smax = refl }
 
   pub shape~ : (k g : List Float) (l0 l3 : Float) → EnvelopeNear (shapeBy p k g l0 l3) (shapeBy ours k g l0 l3)
   unfolding shapeBy
   shape~ k g l0 l3 = go (lt f0 (discriminantOf k)) refl where
     go : (t : Bool) → lt f0 (discriminantOf k) ≡ t → EnvelopeNear (shapeBy p k g l0 l3) (shapeBy ours k g l0 l3)
-    go true h = rw (sym (above-equal (near-sym (A .high 1 (discriminantOf k) f0)) (rw (above-zero (discriminantOf k) h) h))) (turns~ k g _ (ends~ l0 l3))
-    go false h = rw (rootless k g (sqrtOf (p .maxP 1 (discriminantOf k) f0)) (sqrtOf (maxOf (discriminantOf k) f0)) (endsBy p l0 l3) h) (turns~ k g _ (ends~ l0 l3))
+    go true h = rw (sym (above-equal (near-sym (A .high underRoot (discriminantOf k) f0)) (rw (above-zero (discriminantOf k) h) h))) (turns~ k g _ (ends~ l0 l3))
+    go false h = rw (rootless k g (sqrtOf (p .maxP underRoot (discriminantOf k) f0)) (sqrtOf (maxOf (discriminantOf k) f0)) (endsBy p l0 l3) h) (turns~ k g _ (ends~ l0 l3))
 
   pub envelope~ : (t g l : List Float) → EnvelopeNear (envelopeBy p t g l) (envelopeOf t g l)
   unfolding envelopeBy
@@ -83,20 +83,20 @@ module _ (p : Prims) (A : Allowed p) where
 
   pub owns~ : (l : List Float) (isMax : Bool) → ownsBy p l isMax ≡ ownsBy ours l isMax
   unfolding ownsBy
-  owns~ l true = lt~ (max-by~ 6 same same) (max-by~ 5 same same)
-  owns~ l false = lt~ (min-by~ 5 same same) (min-by~ 6 same same)
+  owns~ l true = lt~ (max-by~ outerPair same same) (max-by~ innerPair same same)
+  owns~ l false = lt~ (min-by~ innerPair same same) (min-by~ outerPair same same)
 
   pub band~ : (g : List Float) (s : Float) → BandNear (bandBy p g s) (bandBy ours g s)
   unfolding bandBy
-  band~ g s = record { low = max-by~ 2 same same; high = min-by~ 2 same same }
+  band~ g s = record { low = max-by~ bandCut same same; high = min-by~ bandCut same same }
 
   better~ : (k : List Float) (sign : Float) {low low' high high' a a' : Float} (st : Stationary) → Near low low' → Near high high' → Near a a' →
       Near (betterBy p k sign low high a st) (betterBy ours k sign low' high' a' st)
   unfolding betterBy
-  better~ k sign (At s) u v h = cond~ (and~ (lt~ u same) (lt~ same v)) (max-by~ 4 h same) h
+  better~ k sign (At s) u v h = cond~ (and~ (lt~ u same) (lt~ same v)) (max-by~ turningPoint h same) h
   better~ k sign Nowhere u v h = h
 
   pub extreme~ : (k : List Float) {low low' high high' : Float} (isMax : Bool) → Near low low' → Near high high' → Near (extremeBy p k low high isMax) (extremeBy ours k low' high' isMax)
   unfolding extremeBy
   extreme~ k isMax u v =
-      cond~ {b = finiteCubic k} refl (mul~ same (better~ k (signOf isMax) (stationaryOf k isMax) u v (max-by~ 3 (mul~ same (horner~ k u)) (mul~ same (horner~ k v))))) same
+      cond~ {b = finiteCubic k} refl (mul~ same (better~ k (signOf isMax) (stationaryOf k isMax) u v (max-by~ bandEnds (mul~ same (horner~ k u)) (mul~ same (horner~ k v))))) same
