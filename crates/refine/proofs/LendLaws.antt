@@ -5,15 +5,15 @@ use mathlib.Core.List.{List}
 use lib.Ieee.{Float}
 use Rattle.tables.specs.declared.Set.{Set}
 use Rattle.refine.specs.Refine.{refineOf}
-use Rattle.refine.specs.Lend.{leftOf, settledOf}
+use Rattle.refine.specs.Lend.{leftOf, lentOf}
 use Rattle.refine.specs.declared.Spot.{Spot}
 use Rattle.refine.specs.declared.Refined.{Refined}
 use Rattle.refine.specs.declared.Refined.the-variants.{Accepted, Rejected}
 use Rattle.refine.specs.declared.lend.Settled.{Settled}
 
 -- a refusal leaves the spot as it was
-pub refused-leaves-spot : (set : Set) (ratio : Float) (k : List (List Float)) (spot : Spot) → settledOf set ratio k spot .ok ≡ false → settledOf set ratio k spot .spot ≡ spot
-unfolding settledOf leftOf
+pub refused-leaves-spot : (set : Set) (ratio : Float) (k : List (List Float)) (spot : Spot) → lentOf set ratio k spot .ok ≡ false → lentOf set ratio k spot .spot ≡ spot
+unfolding lentOf leftOf
 refused-leaves-spot set ratio k spot = go (refineOf set ratio k spot)
   where
     go : (r : Refined) → leftOf spot r .ok ≡ false → leftOf spot r .spot ≡ spot
@@ -21,8 +21,8 @@ refused-leaves-spot set ratio k spot = go (refineOf set ratio k spot)
     go Rejected h = refl
 
 -- it accepts exactly where the refinement does, and leaves the spot accepted
-pub accepted-left : (set : Set) (ratio : Float) (k : List (List Float)) (spot : Spot) → settledOf set ratio k spot .ok ≡ true → refineOf set ratio k spot ≡ Accepted (settledOf set ratio k spot .spot)
-unfolding settledOf leftOf
+pub accepted-left : (set : Set) (ratio : Float) (k : List (List Float)) (spot : Spot) → lentOf set ratio k spot .ok ≡ true → refineOf set ratio k spot ≡ Accepted (lentOf set ratio k spot .spot)
+unfolding lentOf leftOf
 accepted-left set ratio k spot = go (refineOf set ratio k spot)
   where
     go : (r : Refined) → leftOf spot r .ok ≡ true → r ≡ Accepted (leftOf spot r .spot)
@@ -30,9 +30,9 @@ accepted-left set ratio k spot = go (refineOf set ratio k spot)
     go Rejected h = cc
 
 -- two answers that a contract allows are equal
-pub settled-only : (set : Set) (ratio : Float) (k : List (List Float)) (spot : Spot) (a b : Settled) → a ≡ settledOf set ratio k spot → b ≡ settledOf set ratio k spot → a ≡ b
+pub settled-only : (set : Set) (ratio : Float) (k : List (List Float)) (spot : Spot) (a b : Settled) → a ≡ lentOf set ratio k spot → b ≡ lentOf set ratio k spot → a ≡ b
 settled-only set ratio k spot a b p q = p ∙ sym q
 
 pub in-place-only : (set : Set) (ratio : Float) (k : List (List Float)) (spot : Spot) (a b : Bool) (s t : Spot) →
-    (a ≡ settledOf set ratio k spot .ok) × (s ≡ settledOf set ratio k spot .spot) → (b ≡ settledOf set ratio k spot .ok) × (t ≡ settledOf set ratio k spot .spot) → (a ≡ b) × (s ≡ t)
+    (a ≡ lentOf set ratio k spot .ok) × (s ≡ lentOf set ratio k spot .spot) → (b ≡ lentOf set ratio k spot .ok) × (t ≡ lentOf set ratio k spot .spot) → (a ≡ b) × (s ≡ t)
 in-place-only set ratio k spot a b s t p q = (p .0 ∙ sym (q .0), p .1 ∙ sym (q .1))

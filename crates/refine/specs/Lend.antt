@@ -15,5 +15,5 @@ leftOf spot (Accepted found) = record { spot = found; ok = true }
 leftOf spot Rejected = record { spot = spot; ok = false }
 
 -- the spot that the refinement leaves, and whether it accepted
-unfoldable pub settledOf : Set → Float → List (List Float) → Spot → Settled
-settledOf set ratio k spot = leftOf spot (refineOf set ratio k spot)
+unfoldable pub lentOf : Set → Float → List (List Float) → Spot → Settled
+lentOf set ratio k spot = leftOf spot (refineOf set ratio k spot)

@@ -45,7 +45,7 @@ use denote.Exit.{yes}
 use Rattle.tables.specs.declared.Set.{Set}
 use Rattle.tables.proofs.Set as SetRow
 use Rattle.tables.proofs.Set.Laws as SetLaws
-use Rattle.refine.specs.Lend.{settledOf}
+use Rattle.refine.specs.Lend.{lentOf}
 use Rattle.refine.specs.declared.Spot.{Spot}
 use Rattle.refine.specs.declared.lend.Settled.{Settled}
 use Rattle.refine.proofs.Spot as SpotRow
@@ -90,7 +90,7 @@ module _ {M : Type 1} (𝓤 : URA M) (H : Heap 𝓤) (A : Atoms 𝓤) (W : Given
   words = (setWords set, (spotWords spot, (ptr-vals k, (vfloat binary32 ratio ∷ [], tt))))
 
   abbrev answer : Settled
-  answer = settledOf set ratio (now k) spot
+  answer = lentOf set ratio (now k) spot
 
   abbrev Promise : Val → SProp 𝓤
   Promise = walkOf 𝓤 H A here.ended kept (here.clauses 𝓤 H A memory run) .post (((κ, tt), (q, tt), tt, arguments, words), tt)

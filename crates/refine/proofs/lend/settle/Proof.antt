@@ -1,6 +1,6 @@
 -- `lend::settle` meets its contract.
 use mathlib.Core.Path.{sym, _∙_, ap}
-use Rattle.refine.specs.Lend.{leftOf, settledOf}
+use Rattle.refine.specs.Lend.{leftOf, lentOf}
 use borrow.Author.Needs.{needs}
 use Rattle.refine.proofs.lend.settle.Statement.{statement}
 use Rattle.refine.proofs.lend.settle.Tie as tie
@@ -15,11 +15,11 @@ enum-told : tie.Need-enum-told
 enum-told c = search needs
 
 returns : tie.Need-returns
-unfolding settledOf leftOf
+unfolding lentOf leftOf
 returns c = ap (leftOf (c .before .before .before .before .args .spot)) (sym (c .before .found .given .1) ∙ c .before .before .before .refine-keypoint-2d .ensures)
 
 returns-2 : tie.Need-returns-2
-unfolding settledOf leftOf
+unfolding lentOf leftOf
 returns-2 c = ap (leftOf (c .before .before .before .args .spot)) (sym (c .enum-told .given .1) ∙ c .before .before .refine-keypoint-2d .ensures)
 
 pub settle-spec : {M : Type 1} → statement M
