@@ -1,9 +1,10 @@
 -- The cubic in sigma: its coefficients from four samples, and its values. Definitions only.
 use Prim.Native.Nat.{ℕ, _+_}
+use mathlib.Core.Bool.{Bool, cond}
 use mathlib.Core.List.{List, [], _∷_}
 use lib.ListN.{getD}
-use lib.Ieee.{Float, nan}
-use Rattle.float.specs.Num.{_⊕_, _⊖_, _⊗_, f2, f6}
+use lib.Ieee.{Float, nan, lt}
+use Rattle.float.specs.Num.{_⊕_, _⊖_, _⊗_, f0, f2, f6}
 
 infixl 80 _at_
 -- the i-th float of a list
@@ -33,3 +34,7 @@ discriminantOf k = f2 ⊗ k at 1 ⊗ (f2 ⊗ k at 1) ⊖ f2 ⊗ (f6 ⊗ k at 0) 
 -- the second derivative of k at s
 unfoldable pub curvatureOf : List Float → Float → Float
 curvatureOf k s = f6 ⊗ k at 0 ⊗ s ⊕ f2 ⊗ k at 1
+
+-- a number has the sign of the polarity's curvature: below 0 at a maximum, above 0 at a minimum
+abbrev pub bendsOf : Float → Bool → Bool
+bendsOf x isMax = cond isMax (lt x f0) (lt f0 x)

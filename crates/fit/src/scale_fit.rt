@@ -8,7 +8,7 @@ ghost use mathlib.Core.Bool.{cond, not};
 ghost use lib.Ieee.{nan, lt};
 ghost use Rattle.float.specs.Num.{f0};
 ghost use Rattle.fit.specs.Prims.{ours};
-ghost use Rattle.fit.specs.Cubic.{coeffsOf, hornerOf, discriminantOf, curvatureOf};
+ghost use Rattle.fit.specs.Cubic.{coeffsOf, hornerOf, discriminantOf, curvatureOf, bendsOf};
 ghost use Rattle.fit.specs.Band.{bandOf, finiteCubic, signOf, stationaryOf, betterBy, extremeOf};
 ghost use Rattle.fit.specs.Owns.{ownsOf};
 
@@ -61,6 +61,13 @@ pub fn curvature(k: [f32; 4], s: f32) -> f32
     ensures { λ r. ⌜ r ≡ curvatureOf k s ⌝ }
 {
     6.0 * k[0] * s + 2.0 * k[1]
+}
+
+// A number has the sign of the polarity's curvature: below 0 at a maximum, above 0 at a minimum.
+pub fn bends(x: f32, is_max: bool) -> bool
+    ensures { λ r. ⌜ r ≡ bendsOf x «is_max» ⌝ }
+{
+    if is_max { x < 0.0 } else { x > 0.0 }
 }
 
 // The scales from sigma over the root of 2 to sigma times it, cut to the levels.

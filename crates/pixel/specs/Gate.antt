@@ -3,10 +3,9 @@ use mathlib.Core.List.{List}
 use mathlib.Core.Bool.{Bool, cond, _&&_}
 use lib.Ieee.{Float, lt, neg}
 use Rattle.float.specs.Small.{finite, absOf}
-use Rattle.float.specs.Num.{f0}
 use Rattle.tables.specs.declared.Set.{Set}
 use Rattle.tables.specs.declared.Thresholds.{Thresholds}
-use Rattle.fit.specs.Cubic.{_at_, coeffsOf, curvatureOf}
+use Rattle.fit.specs.Cubic.{_at_, coeffsOf, curvatureOf, bendsOf}
 use Rattle.fit.specs.Prims.{Prims, ours}
 use Rattle.fit.specs.Envelope.{within, shapeBy}
 use Rattle.fit.specs.Owns.{ownsBy}
@@ -28,7 +27,7 @@ strongOf th peak isMax = cond isMax (lt (th .peak) peak) (lt peak (neg (th .peak
 unfoldable pub curvedOf : Thresholds → List Float → Float → Bool → Bool
 curvedOf th k sigma isMax =
     let c = curvatureOf k sigma in
-    finite c && cond isMax (lt c f0) (lt f0 c) && lt (th .sigma) (absOf c)
+    finite c && bendsOf c isMax && lt (th .sigma) (absOf c)
 
 -- the gates of the extreme (sigma, peak) of the cubic k of the samples l
 unfoldable pub gateBy : Prims → Thresholds → List Float → List Float → Float → Float → Bool → Bool

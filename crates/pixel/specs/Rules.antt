@@ -6,10 +6,9 @@ use mathlib.Core.Bool.{Bool, true, cond}
 use lib.ListN.{getD}
 use lib.Ieee.{Float, lt, le, neg}
 use Rattle.float.specs.Small.{finite, absOf}
-use Rattle.float.specs.Num.{f0}
 use Rattle.tables.specs.declared.Set.{Set}
 use Rattle.tables.specs.declared.Thresholds.{Thresholds}
-use Rattle.fit.specs.Cubic.{_at_, curvatureOf}
+use Rattle.fit.specs.Cubic.{_at_, curvatureOf, bendsOf}
 use Rattle.fit.specs.Envelope.{shapeOf}
 use Rattle.fit.specs.Band.{bandOf, extremeOf}
 use Rattle.fit.specs.Owns.{ownsOf}
@@ -67,7 +66,7 @@ pub record Admits (s : Set) (th : Thresholds) (f : Frame) (nine : List (List Flo
   pub peak-beyond : cond isMax (lt (th .peak) (ownPeak s nine isMax)) (lt (ownPeak s nine isMax) (neg (th .peak))) ≡ true
   -- curvature finite, of the right sign and strictly beyond the sigma threshold in size
   pub curvature-finite : finite (ownCurvature s nine isMax) ≡ true
-  pub curvature-sign : cond isMax (lt (ownCurvature s nine isMax) f0) (lt f0 (ownCurvature s nine isMax)) ≡ true
+  pub curvature-sign : bendsOf (ownCurvature s nine isMax) isMax ≡ true
   pub curvature-beyond : lt (th .sigma) (absOf (ownCurvature s nine isMax)) ≡ true
   -- an inner level owns the extremum
   pub owned : ownsOf (ownSamples nine) isMax ≡ true

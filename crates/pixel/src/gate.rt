@@ -1,13 +1,11 @@
 // A pixel's own gates, from its four samples.
 ghost use mathlib.Core.Path.{_≡_};
-ghost use mathlib.Core.Bool.{cond};
-ghost use lib.Ieee.{lt};
-ghost use Rattle.float.specs.Num.{f0};
 ghost use Rattle.fit.specs.Prims.{ours};
 ghost use Rattle.pixel.specs.Gate.{sigmaOf, peakOf, strongOf, curvedOf, gateBy};
 ghost use Rattle.pixel.specs.Stands.{ownsEither, ownOf};
 use crate::Own;
 use fit::Envelope;
+use fit::scale_fit::bends;
 use tables::Thresholds;
 
 // The sigma of a polarity's extreme.
@@ -33,13 +31,6 @@ fn strong(th: Thresholds, peak: f32, is_max: bool) -> bool
     } else {
         peak < -th.peak
     }
-}
-
-// A curvature has the sign of the polarity: below 0 at a maximum, above 0 at a minimum.
-fn bends(c: f32, is_max: bool) -> bool
-    ensures { λ r. ⌜ r ≡ cond «is_max» (lt c f0) (lt f0 c) ⌝ }
-{
-    if is_max { c < 0.0 } else { c > 0.0 }
 }
 
 // The curvature is finite, of the right sign and strictly beyond the threshold in size.

@@ -6,9 +6,9 @@ use lib.Dec.{eqb}
 use lib.ListN.{getD}
 use lib.Ieee.{Float, lt, le, neg}
 use Rattle.float.specs.Small.{finite, absOf}
-use Rattle.float.specs.Num.{_⊕_, _⊖_, _⊗_, _⊘_, f0, f2, f4, f¼, f1e-10, f0·6}
+use Rattle.float.specs.Num.{_⊕_, _⊖_, _⊗_, _⊘_, f2, f4, f¼, f1e-10, f0·6}
 use Rattle.tables.specs.declared.Set.{Set}
-use Rattle.fit.specs.Cubic.{_at_}
+use Rattle.fit.specs.Cubic.{_at_, bendsOf}
 use Rattle.fit.specs.Prims.{Prims, ours}
 use Rattle.refine.specs.declared.Spot.{Spot}
 use Rattle.refine.specs.declared.Refined.{Refined}
@@ -35,7 +35,7 @@ edgeOf v most isMax =
     let tr = gxx ⊕ gyy in
     let det = gxx ⊗ gyy ⊖ gxy ⊗ gxy in
     let ratio = tr ⊗ tr ⊘ det in
-    finite gxx && finite gyy && finite gxy && finite tr && finite det && not (lt det f1e-10) && cond isMax (lt tr f0) (lt f0 tr)
+    finite gxx && finite gyy && finite gxy && finite tr && finite det && not (lt det f1e-10) && bendsOf tr isMax
     && finite ratio && not (lt most ratio)
 
 -- one of the two inner levels: 1 up to the second sigma, else 2
@@ -73,7 +73,7 @@ denominatorOf w = f4 ⊗ w at 0 ⊗ w at 1 ⊖ w at 2 ⊗ w at 2
 -- w1, w2, w3 and the denominator are finite, and w1 has the polarity's sign
 unfoldable pub steepOf : List Float → Bool → Bool
 steepOf w isMax =
-    finite (w at 0) && finite (w at 1) && finite (w at 2) && finite (denominatorOf w) && cond isMax (lt (w at 0) f0) (lt f0 (w at 0))
+    finite (w at 0) && finite (w at 1) && finite (w at 2) && finite (denominatorOf w) && bendsOf (w at 0) isMax
 
 -- the displacement along a column
 unfoldable pub deltaYOf : List Float → Float

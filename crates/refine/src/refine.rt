@@ -1,13 +1,12 @@
 // The refinement: which inner level a sigma belongs to, the spatial fit, edge rejection and the place between pixels.
 ghost use mathlib.Core.Path.{_≡_};
-ghost use mathlib.Core.Bool.{cond};
 ghost use Prim.Native.Nat.{_<_, _≤_, _+_, _*_};
-ghost use lib.Ieee.{lt};
 ghost use Rattle.float.specs.Num.{f0};
 ghost use Rattle.fit.specs.Cubic.{_at_};
 ghost use Rattle.refine.specs.Refine.{valueOf, valuesOf, edgeOf, indexOf, blockOf, termOf, sumFrom, spatialOf, denominatorOf, steepOf, deltaYOf, deltaXOf, nearby, placedOf, movedOf, refineOf};
 use crate::Refined;
 use crate::Spot;
+use fit::scale_fit::bends;
 use tables::Set;
 
 // The inner level whose fit a sigma takes.
@@ -42,13 +41,6 @@ fn values_at(k: &[[f32; 4]; 9], s: f32) -> [f32; 9]
         value_at(k, s, 7),
         value_at(k, s, 8),
     ]
-}
-
-// A number has the sign of the polarity's curvature: below 0 at a maximum, above 0 at a minimum.
-fn bends(x: f32, is_max: bool) -> bool
-    ensures { λ r. ⌜ r ≡ cond «is_max» (lt x f0) (lt f0 x) ⌝ }
-{
-    if is_max { x < 0.0 } else { x > 0.0 }
 }
 
 // The Hessian of the nine values is no edge's.

@@ -1,6 +1,6 @@
--- `gate::bends` meets its contract.
-use Rattle.pixel.proofs.gate.bends.Statement.{statement}
-use Rattle.pixel.proofs.gate.bends.Tie as tie
+-- `fit::scale_fit::bends` meets its contract.
+use Rattle.fit.proofs.scale_fit.bends.Statement.{statement}
+use Rattle.fit.proofs.scale_fit.bends.Tie as tie
 
 returns : tie.Need-returns
 returns c = rw (c .if1 .taken)
