@@ -9,7 +9,7 @@ use Rattle.tables.specs.declared.Thresholds.{Thresholds}
 use Rattle.tables.specs.declared.Checked.{Checked}
 use Rattle.tables.specs.declared.Checked.the-variants.{Fine, Bad}
 use Rattle.record.specs.declared.Record.{Record}
-use Rattle.record.specs.Layout.{bytesOf, written}
+use Rattle.record.specs.Layout.{spotWidth, bytesOf, written}
 use Rattle.record.proofs.LayoutLaws.{length-laid, laid-first, laid-keeps}
 use Rattle.alp.specs.Level.{Maps, mapsOf}
 use Rattle.alp.specs.Due.{due}
@@ -24,13 +24,13 @@ unfolding detected
 detected-length (Bad r) m out = refl
 detected-length Fine m out = length-laid (due m) out
 
-detected-keeps : (w : Checked) (m : Maps) (out : List ℕ) (i : ℕ) → written (due m) out * 40 ≤ i → getD (detected w m out .buffer) i 0 ≡ getD out i 0
+detected-keeps : (w : Checked) (m : Maps) (out : List ℕ) (i : ℕ) → written (due m) out * spotWidth ≤ i → getD (detected w m out .buffer) i 0 ≡ getD out i 0
 unfolding detected
 detected-keeps (Bad r) m out i h = refl
 detected-keeps Fine m out i h = laid-keeps (due m) out i h
 
 detected-first : (w : Checked) (m : Maps) (out : List ℕ) (n : ℕ) → detected w m out .answer ≡ Found n
-    → (n ≡ length (due m)) × (take (written (due m) out * 40) (detected w m out .buffer) ≡ bytesOf (take (length out / 40) (due m)))
+    → (n ≡ length (due m)) × (take (written (due m) out * spotWidth) (detected w m out .buffer) ≡ bytesOf (take (length out / spotWidth) (due m)))
 unfolding detected
 detected-first (Bad r) m out n e = (cc, cc)
 detected-first Fine m out n e = (cc, laid-first (due m) out)
@@ -65,11 +65,11 @@ module _ (s : Set) (th : Thresholds) (rows cols octave : ℕ) (l0 l1 l2 l3 : Lis
 
   -- what is found is the whole list, and as many whole records as fit are written, first ones first
   pub first-written : (n : ℕ) → after .answer ≡ Found n
-      → (n ≡ length found) × (take (written found out * 40) (after .buffer) ≡ bytesOf (take (length out / 40) found))
+      → (n ≡ length found) × (take (written found out * spotWidth) (after .buffer) ≡ bytesOf (take (length out / spotWidth) found))
   unfolding detectOf
   first-written n e = detected-first _ _ out n e
 
   -- all later bytes are kept
-  pub later-kept : (i : ℕ) → written found out * 40 ≤ i → getD (after .buffer) i 0 ≡ getD out i 0
+  pub later-kept : (i : ℕ) → written found out * spotWidth ≤ i → getD (after .buffer) i 0 ≡ getD out i 0
   unfolding detectOf
   later-kept i h = detected-keeps _ _ out i h

@@ -17,7 +17,7 @@ use Rattle.tables.specs.declared.Checked.the-variants.{Fine, Bad}
 use Rattle.tables.specs.Refusal.{unless, firstOf}
 use Rattle.tables.specs.Set.{good}
 use Rattle.record.specs.declared.Record.{Record}
-use Rattle.record.specs.Layout.{recordAt, laid, written}
+use Rattle.record.specs.Layout.{spotWidth, recordAt, laid, written}
 use Rattle.record.specs.Readable.{readable}
 use Rattle.record.proofs.LayoutLaws.{length-written, laid-first}
 use Rattle.record.proofs.RoundTrip.{recordAt-laid}
@@ -28,6 +28,7 @@ use Rattle.alp.specs.Detect.{Outcome, detectOf}
 use Rattle.alp.specs.Refusals.{applies}
 use Rattle.alp.specs.declared.Answer.the-variants.{Found}
 use Rattle.alp.proofs.RefusalsLaws.{found-none}
+use Rattle.join.specs.Sized.{sizedWidth}
 use Rattle.join.specs.Join.{firstBad, joinChecks, joined, joinOf}
 use Rattle.demands.specs.List.{StandsAt}
 use Rattle.demands.specs.Joined.{Joins}
@@ -37,9 +38,9 @@ use Rattle.demands.proofs.Held.{list-held}
 
 -- ---- records read from the front of a buffer
 
--- the 40 bytes of a record that lies in the front
-own-bytes : (at n : ℕ) (b : List ℕ) → at + 40 ≤ n → take 40 (drop at (take n b)) ≡ take 40 (drop at b)
-own-bytes zero n b h = take-take 40 n b (omega arith)
+-- the bytes of a record that lies in the front
+own-bytes : (at n : ℕ) (b : List ℕ) → at + spotWidth ≤ n → take spotWidth (drop at (take n b)) ≡ take spotWidth (drop at b)
+own-bytes zero n b h = take-take spotWidth n b (omega arith)
 own-bytes (suc at) zero b h = let z : ⊥ = omega arith in absurd z
 own-bytes (suc at) (suc n) [] h = refl
 own-bytes (suc at) (suc n) (x ∷ b) h = own-bytes at n b (omega arith)
@@ -76,9 +77,9 @@ module _ (m : Maps) (out : List ℕ) (rows-most : m .frame .rows ≤ 4096) (cols
 
   -- their bytes
   abbrev bytes : List ℕ
-  bytes = take (count * 40) (laid (due m) out)
+  bytes = take (count * spotWidth) (laid (due m) out)
 
-  length-bytes : length bytes ≡ count * 40
+  length-bytes : length bytes ≡ count * spotWidth
   length-bytes = ap length (laid-first (due m) out) ∙ length-written (due m) out
 
   -- each is read back as it was listed
@@ -87,36 +88,36 @@ module _ (m : Maps) (out : List ℕ) (rows-most : m .frame .rows ≤ 4096) (cols
       let d : Record = recordAt bytes i in
       let there = stands-there (due m) i d (omega arith) in
       let held = list-held m _ rows-most cols-most (record { place = i; there = there }) in
-      let read = same-bytes-same-record (take (count * 40) (laid (due m) out)) (laid (due m) out) (i * 40) (i * 40) (own-bytes (i * 40) (count * 40) (laid (due m) out) (omega arith)) ∙ recordAt-laid (due m) out i d h held in
+      let read = same-bytes-same-record (take (count * spotWidth) (laid (due m) out)) (laid (due m) out) (i * spotWidth) (i * spotWidth) (own-bytes (i * spotWidth) (count * spotWidth) (laid (due m) out) (omega arith)) ∙ recordAt-laid (due m) out i d h held in
       subst (StandsAt (due m) i) (sym read) there
 
   read-readable : (i : ℕ) → i < count → readable (m .frame .rows) (m .frame .cols) (recordAt bytes i) ≡ true
   read-readable i h = join-accepts m _ (record { place = i; there = read-back i h })
 
   -- of the join's checks only the set's and the room's are open
-  checks-open : (t : Set) (room : ℕ) → firstOf (joinChecks t (m .frame .rows) (m .frame .cols) bytes room) ≡ unless (not (good t)) BadSet (unless (ltb room (count * 52)) Room Fine)
+  checks-open : (t : Set) (room : ℕ) → firstOf (joinChecks t (m .frame .rows) (m .frame .cols) bytes room) ≡ unless (not (good t)) BadSet (unless (ltb room (count * sizedWidth)) Room Fine)
   unfolding joinChecks firstOf unless
   checks-open t room =
-      let whole : length bytes % 40 ≡ 0 = omega (arith, length-bytes) in
-      let number : length bytes / 40 ≡ count = omega (arith, length-bytes) in
+      let whole : length bytes % spotWidth ≡ 0 = omega (arith, length-bytes) in
+      let number : length bytes / spotWidth ≡ count = omega (arith, length-bytes) in
       let none : firstBad (m .frame .rows) (m .frame .cols) bytes count 0 ≡ count = none-bad _ _ bytes count 0 (λ k p q. read-readable k (omega arith)) ∙ omega arith in
       rw (le-ltb _ _ rows-most, le-ltb _ _ cols-most, eq-eqb _ _ whole, number, none, le-ltb count count (omega arith))
 
   -- and with a good set and room for the sized records they pass
-  room-enough : (t : Set) (room : ℕ) → good t ≡ true → count * 52 ≤ room → firstOf (joinChecks t (m .frame .rows) (m .frame .cols) bytes room) ≡ Fine
+  room-enough : (t : Set) (room : ℕ) → good t ≡ true → count * sizedWidth ≤ room → firstOf (joinChecks t (m .frame .rows) (m .frame .cols) bytes room) ≡ Fine
   unfolding unless
   room-enough t room is-good h = checks-open t room ∙ rw (is-good, le-ltb _ _ h)
 
   joins : Joins (m .frame .rows) (m .frame .cols) (due m) count bytes
   unfolding joinOf joined
   joins =
-      let number : length bytes / 40 ≡ count = omega (arith, length-bytes) in
+      let number : length bytes / spotWidth ≡ count = omega (arith, length-bytes) in
       record {
         whole = omega (arith, length-bytes);
         count-is = number;
         as-found = read-back;
         each-readable = read-readable;
-        not-records = λ t room i h. set-or-room (not (good t)) (ltb room (count * 52)) i (sym (checks-open t room) ∙ h);
+        not-records = λ t room i h. set-or-room (not (good t)) (ltb room (count * sizedWidth)) i (sym (checks-open t room) ∙ h);
         fine = λ t room is-good h. room-enough t room is-good (omega arith);
         answer = λ t out' is-good h. rw (room-enough t (length out') is-good (omega arith), number);
       }
@@ -133,12 +134,12 @@ module _ (s : Set) (th : Thresholds) (rows cols octave : ℕ) (l0 l1 l2 l3 : Lis
   after = detectOf s th rows cols octave l0 l1 l2 l3 out
 
   -- The records that a call of detection wrote are accepted by the join with the same rows and cols: there is no refusal 5, and with a good set and room for the sized records their count is answered.
-  pub output-joined : (n : ℕ) → after .answer ≡ Found n → Joins rows cols found (written found out) (take (written found out * 40) (after .buffer))
+  pub output-joined : (n : ℕ) → after .answer ≡ Found n → Joins rows cols found (written found out) (take (written found out * spotWidth) (after .buffer))
   unfolding applies
   output-joined n h =
       let none = found-none s th rows cols octave l0 l1 l2 l3 out n h in
       let sides = neither (ltb 4096 rows) (ltb 4096 cols) (none Size) in
       let m : Maps = mapsOf l0 l1 l2 l3 (record { rows = rows; cols = cols; octave = octave }) s th in
       let wrote : after .buffer ≡ laid found out = unfold detectOf in ap (λ (o : Outcome). o .buffer) (answered _ m out n h) in
-      subst (λ (b : List ℕ). Joins rows cols found (written found out) (take (written found out * 40) b)) (sym wrote)
+      subst (λ (b : List ℕ). Joins rows cols found (written found out) (take (written found out * spotWidth) b)) (sym wrote)
       (joins m out (ltb-false 4096 rows (sides .0)) (ltb-false 4096 cols (sides .1)))

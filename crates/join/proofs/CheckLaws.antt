@@ -11,8 +11,9 @@ use borrow.Author.Tests.{ltb-true, ltb-false, lt-ltb, le-ltb, eqb-true, not-fals
 use Rattle.tables.specs.Set.{good}
 use Rattle.tables.specs.declared.Set.{Set}
 use Rattle.tables.specs.declared.Checked.the-variants.{Fine}
-use Rattle.record.specs.Layout.{recordAt}
+use Rattle.record.specs.Layout.{spotWidth, recordAt}
 use Rattle.record.specs.Readable.{readable}
+use Rattle.join.specs.Sized.{sizedWidth}
 use Rattle.join.specs.Join.{firstBad, badOf, joinChecks}
 use Rattle.tables.specs.Refusal.{firstOf}
 use Rattle.tables.proofs.RefusalLaws.{unless-fine, sides-most}
@@ -77,11 +78,11 @@ pub record Passed (s : Set) (rows cols : ℕ) (b : List ℕ) (room : ℕ) : Type
   pub rows-most : rows ≤ 4096
   pub cols-most : cols ≤ 4096
   pub set-good : good s ≡ true
-  pub long : length b ≡ length b / 40 * 40
-  pub fair : (i : ℕ) → i < length b / 40 → readable rows cols (recordAt b i) ≡ true
-  pub room-enough : length b / 40 * 52 ≤ room
+  pub long : length b ≡ length b / spotWidth * spotWidth
+  pub fair : (i : ℕ) → i < length b / spotWidth → readable rows cols (recordAt b i) ≡ true
+  pub room-enough : length b / spotWidth * sizedWidth ≤ room
 
-whole-records : (n : ℕ) → n % 40 ≡ 0 → n ≡ n / 40 * 40
+whole-records : (n : ℕ) → n % spotWidth ≡ 0 → n ≡ n / spotWidth * spotWidth
 whole-records n h = omega arith
 
 pub checks-passed : (s : Set) (rows cols : ℕ) (b : List ℕ) (room : ℕ) → firstOf (joinChecks s rows cols b room) ≡ Fine → Passed s rows cols b room
@@ -97,15 +98,15 @@ checks-passed s rows cols b room h =
       rows-most = most .0;
       cols-most = most .1;
       set-good = not-false (good s) (set .0);
-      long = whole-records (length b) (eqb-true _ _ (not-false (eqb (length b % 40) 0) (whole .0)));
-      fair = λ i less. fair-before rows cols b (length b / 40) 0 i (omega arith) (omega (arith, ltb-false (badOf rows cols b) (length b / 40) (none-bad .0)));
+      long = whole-records (length b) (eqb-true _ _ (not-false (eqb (length b % spotWidth) 0) (whole .0)));
+      fair = λ i less. fair-before rows cols b (length b / spotWidth) 0 i (omega arith) (omega (arith, ltb-false (badOf rows cols b) (length b / spotWidth) (none-bad .0)));
       room-enough = ltb-false _ _ (buffer .0);
     }
 
 -- ---- room, by the records that it holds
 
-pub too-short : (n room : ℕ) → room / 52 < n → ltb room (n * 52) ≡ true
-too-short n room h = lt-ltb room (n * 52) (omega arith)
+pub too-short : (n room : ℕ) → room / sizedWidth < n → ltb room (n * sizedWidth) ≡ true
+too-short n room h = lt-ltb room (n * sizedWidth) (omega arith)
 
-pub long-enough : (n room : ℕ) → n ≤ room / 52 → ltb room (n * 52) ≡ false
-long-enough n room h = le-ltb room (n * 52) (omega arith)
+pub long-enough : (n room : ℕ) → n ≤ room / sizedWidth → ltb room (n * sizedWidth) ≡ false
+long-enough n room h = le-ltb room (n * sizedWidth) (omega arith)

@@ -21,7 +21,7 @@ use Rattle.tables.specs.declared.Checked.the-variants.{Fine, Bad}
 use Rattle.tables.proofs.SetLaws.{every-or-default}
 use Rattle.record.specs.declared.Record.{Record}
 use Rattle.words.specs.Words.{floatBytes}
-use Rattle.record.specs.Layout.{recordBytes, recordAt}
+use Rattle.record.specs.Layout.{spotWidth, recordBytes, recordAt}
 use Rattle.record.proofs.LayoutLaws.{length-recordBytes}
 use Rattle.record.proofs.ReadableLaws.{readable-parts}
 use Rattle.record.proofs.Converse as converse
@@ -29,7 +29,7 @@ use Rattle.size.specs.Correct.{correctedOf, answerOf, correctBy, correctOf}
 use Rattle.size.specs.declared.Corrected.the-variants.{NoSize}
 use Rattle.size.specs.declared.Correction.the-variants.{Size, Refused}
 use Rattle.size.proofs.CorrectLaws.{size-is-corrected, refused-with-four-or-seven}
-use Rattle.join.specs.Sized.{givenSigma, acceptedOf, samplesIn, sizeOf, homeOf, halfBytes, tailBytes, sizedBytes}
+use Rattle.join.specs.Sized.{sizedWidth, givenSigma, acceptedOf, samplesIn, sizeOf, homeOf, halfBytes, tailBytes, sizedBytes}
 use Rattle.join.specs.Join.{recordsFrom, sizedAll, joinChecks, laidSized, joined, joinOf}
 use Rattle.join.specs.declared.Joined.the-variants.{Count}
 use Rattle.join.proofs.CheckLaws.{Passed, checks-passed}
@@ -71,27 +71,27 @@ size-own s r t e0 e1 e2 e3 sigma polarity = rw (e0, e1, e2, e3, sigma, polarity)
 -- ---- sized records, one after the other
 
 module _ (s : Set) (cols : ℕ) (b : List ℕ) where
-  sized-among : (n k i : ℕ) (rest : List ℕ) → i < n → take 52 (drop (i * 52) (sizedAll s cols (recordsFrom b n k) ++ rest)) ≡ sizedBytes s cols (recordAt b (k + i))
+  sized-among : (n k i : ℕ) (rest : List ℕ) → i < n → take sizedWidth (drop (i * sizedWidth) (sizedAll s cols (recordsFrom b n k) ++ rest)) ≡ sizedBytes s cols (recordAt b (k + i))
   unfolding sizedAll recordsFrom
   sized-among zero k i rest h = absurd (not-suc-le-zero h)
   sized-among (suc n) k zero rest h =
-      let first : zero * 52 ≡ 0 = omega arith in
+      let first : zero * sizedWidth ≡ 0 = omega arith in
       let same : k + zero ≡ k = omega arith in
-      rw (first, same, append-assoc (sizedBytes s cols (recordAt b k)) (sizedAll s cols (recordsFrom b n (suc k))) rest) (take-at (sizedBytes s cols (recordAt b k)) _ 52 (length-sizedBytes s cols (recordAt b k)))
+      rw (first, same, append-assoc (sizedBytes s cols (recordAt b k)) (sizedAll s cols (recordsFrom b n (suc k))) rest) (take-at (sizedBytes s cols (recordAt b k)) _ sizedWidth (length-sizedBytes s cols (recordAt b k)))
   sized-among (suc n) k (suc i) rest h =
       let own : List ℕ = sizedBytes s cols (recordAt b k) in
-      let place : suc i * 52 ≡ length own + i * 52 = omega (arith, length-sizedBytes s cols (recordAt b k)) in
+      let place : suc i * sizedWidth ≡ length own + i * sizedWidth = omega (arith, length-sizedBytes s cols (recordAt b k)) in
       let next : k + suc i ≡ suc k + i = omega arith in
-      rw (place, next, append-assoc own (sizedAll s cols (recordsFrom b n (suc k))) rest, drop-append-add own (sizedAll s cols (recordsFrom b n (suc k)) ++ rest) (i * 52)) (sized-among n (suc k) i rest (le-of-suc-le-suc h))
+      rw (place, next, append-assoc own (sizedAll s cols (recordsFrom b n (suc k))) rest, drop-append-add own (sizedAll s cols (recordsFrom b n (suc k)) ++ rest) (i * sizedWidth)) (sized-among n (suc k) i rest (le-of-suc-le-suc h))
 
-  pub laid-sized-at : (out : List ℕ) (i : ℕ) → i < length b / 40 → take 52 (drop (i * 52) (laidSized s cols b out)) ≡ sizedBytes s cols (recordAt b i)
+  pub laid-sized-at : (out : List ℕ) (i : ℕ) → i < length b / spotWidth → take sizedWidth (drop (i * sizedWidth) (laidSized s cols b out)) ≡ sizedBytes s cols (recordAt b i)
   unfolding laidSized
-  laid-sized-at out i h = sized-among (length b / 40) 0 i _ h ∙ ap (λ (k : ℕ). sizedBytes s cols (recordAt b k)) (zero-add i)
+  laid-sized-at out i h = sized-among (length b / spotWidth) 0 i _ h ∙ ap (λ (k : ℕ). sizedBytes s cols (recordAt b k)) (zero-add i)
 
 -- ---- a call that answers a count
 
 counted : (w : Checked) (s : Set) (cols : ℕ) (b out : List ℕ) (n : ℕ) → joined w s cols b out .answer ≡ Count n
-    → (w ≡ Fine) × (n ≡ length b / 40) × (joined w s cols b out .buffer ≡ laidSized s cols b out)
+    → (w ≡ Fine) × (n ≡ length b / spotWidth) × (joined w s cols b out .buffer ≡ laidSized s cols b out)
 unfolding joined
 counted (Bad r) s cols b out n e = (cc, cc, cc)
 counted Fine s cols b out n e = (refl, cc, refl)
@@ -100,7 +100,7 @@ module _ (s : Set) (rows cols : ℕ) (list out : List ℕ) (n : ℕ) (answered :
   abbrev after : List ℕ
   after = joinOf s rows cols list out .buffer
 
-  parts : (firstOf (joinChecks s rows cols list (length out)) ≡ Fine) × (n ≡ length list / 40) × (after ≡ laidSized s cols list out)
+  parts : (firstOf (joinChecks s rows cols list (length out)) ≡ Fine) × (n ≡ length list / spotWidth) × (after ≡ laidSized s cols list out)
   unfolding joinOf
   parts = counted _ s cols list out n answered
 
@@ -108,36 +108,36 @@ module _ (s : Set) (rows cols : ℕ) (list out : List ℕ) (n : ℕ) (answered :
   passed = checks-passed s rows cols list (length out) (parts .0)
 
   -- the count answered is the list's
-  pub count-is : n ≡ length list / 40
+  pub count-is : n ≡ length list / spotWidth
   count-is = parts .1
 
   -- the i-th sized record is a function of the i-th record, the set and cols alone
-  pub sized-at : (i : ℕ) → i < n → take 52 (drop (i * 52) after) ≡ sizedBytes s cols (recordAt list i)
-  sized-at i h = ap (λ (b : List ℕ). take 52 (drop (i * 52) b)) (parts .2) ∙ laid-sized-at s cols list out i (omega (arith, count-is))
+  pub sized-at : (i : ℕ) → i < n → take sizedWidth (drop (i * sizedWidth) after) ≡ sizedBytes s cols (recordAt list i)
+  sized-at i h = ap (λ (b : List ℕ). take sizedWidth (drop (i * sizedWidth) b)) (parts .2) ∙ laid-sized-at s cols list out i (omega (arith, count-is))
 
-  -- the spot's own 40 bytes stand in its sized record unchanged
-  pub record-kept : (i : ℕ) → i < n → allUnder 256 list ≡ true → take 40 (drop (i * 52) after) ≡ take 40 (drop (i * 40) list)
+  -- the spot's own bytes stand in its sized record unchanged
+  pub record-kept : (i : ℕ) → i < n → allUnder 256 list ≡ true → take spotWidth (drop (i * sizedWidth) after) ≡ take spotWidth (drop (i * spotWidth) list)
   unfolding sizedBytes
   record-kept i h under =
       let r : Record = recordAt list i in
-      let inside : i < length list / 40 = omega (arith, count-is) in
+      let inside : i < length list / spotWidth = omega (arith, count-is) in
       let bytes : (k : ℕ) → getD list k 0 < 256 = λ k. ltb-true _ _ (every-or-default (λ x. ltb x 256) list 0 k under refl) in
-      sym (take-take 40 52 (drop (i * 52) after) (omega arith))
-      ∙ ap (take 40) (sized-at i h)
-      ∙ take-at (recordBytes r) _ 40 (length-recordBytes r)
-      ∙ converse.record-kept list bytes (i * 40) (omega arith) (readable-parts rows cols r (passed .fair i inside) .floats)
+      sym (take-take spotWidth sizedWidth (drop (i * sizedWidth) after) (omega arith))
+      ∙ ap (take spotWidth) (sized-at i h)
+      ∙ take-at (recordBytes r) _ spotWidth (length-recordBytes r)
+      ∙ converse.record-kept list bytes (i * spotWidth) (omega arith) (readable-parts rows cols r (passed .fair i inside) .floats)
 
 -- two calls with the same set and cols give equal records the same size and home, at whatever place and among whatever others
 pub same-record-same-size : (s : Set) (cols rows rows' : ℕ) (list list' out out' : List ℕ) (n n' i j : ℕ)
     → joinOf s rows cols list out .answer ≡ Count n → joinOf s rows' cols list' out' .answer ≡ Count n' → i < n → j < n' → recordAt list i ≡ recordAt list' j
-    → take 52 (drop (i * 52) (joinOf s rows cols list out .buffer)) ≡ take 52 (drop (j * 52) (joinOf s rows' cols list' out' .buffer))
+    → take sizedWidth (drop (i * sizedWidth) (joinOf s rows cols list out .buffer)) ≡ take sizedWidth (drop (j * sizedWidth) (joinOf s rows' cols list' out' .buffer))
 same-record-same-size s cols rows rows' list list' out out' n n' i j a a' h h' e =
     sized-at s rows cols list out n a i h ∙ ap (sizedBytes s cols) e ∙ sym (sized-at s rows' cols list' out' n' a' j h')
 
 -- and the same of equal bytes
 pub same-bytes-same-size : (s : Set) (cols rows rows' : ℕ) (list list' out out' : List ℕ) (n n' i j : ℕ)
     → joinOf s rows cols list out .answer ≡ Count n → joinOf s rows' cols list' out' .answer ≡ Count n' → i < n → j < n'
-    → take 40 (drop (i * 40) list) ≡ take 40 (drop (j * 40) list')
-    → take 52 (drop (i * 52) (joinOf s rows cols list out .buffer)) ≡ take 52 (drop (j * 52) (joinOf s rows' cols list' out' .buffer))
+    → take spotWidth (drop (i * spotWidth) list) ≡ take spotWidth (drop (j * spotWidth) list')
+    → take sizedWidth (drop (i * sizedWidth) (joinOf s rows cols list out .buffer)) ≡ take sizedWidth (drop (j * sizedWidth) (joinOf s rows' cols list' out' .buffer))
 same-bytes-same-size s cols rows rows' list list' out out' n n' i j a a' h h' e =
-    same-record-same-size s cols rows rows' list list' out out' n n' i j a a' h h' (converse.same-bytes-same-record list list' (i * 40) (j * 40) e)
+    same-record-same-size s cols rows rows' list list' out out' n n' i j a a' h h' (converse.same-bytes-same-record list list' (i * spotWidth) (j * spotWidth) e)

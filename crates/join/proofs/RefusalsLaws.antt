@@ -15,6 +15,8 @@ use Rattle.tables.specs.declared.Refusal.{Refusal}
 use Rattle.tables.specs.declared.Refusal.the-variants.{Size, BadSet, Records, Room}
 use Rattle.tables.specs.declared.Checked.{Checked}
 use Rattle.tables.specs.declared.Checked.the-variants.{Fine, Bad}
+use Rattle.record.specs.Layout.{spotWidth}
+use Rattle.join.specs.Sized.{sizedWidth}
 use Rattle.join.specs.Join.{badOf, recordsOf, sizedAll, laidSized, joinChecks, Outcome, outcome, joined, joinOf}
 use Rattle.join.specs.Claims.{WrongLength, FirstBad}
 use Rattle.join.specs.declared.Joined.{Joined}
@@ -40,22 +42,22 @@ unfolding joined
 buffer-kept (Bad q) s cols b out r e = refl
 buffer-kept Fine s cols b out r e = cc
 
-joined-length : (w : Checked) (s : Set) (cols : ℕ) (b out : List ℕ) → (w ≡ Fine → length b / 40 * 52 ≤ length out) → length (joined w s cols b out .buffer) ≡ length out
+joined-length : (w : Checked) (s : Set) (cols : ℕ) (b out : List ℕ) → (w ≡ Fine → length b / spotWidth * sizedWidth ≤ length out) → length (joined w s cols b out .buffer) ≡ length out
 unfolding joined
 joined-length (Bad r) s cols b out room = refl
 joined-length Fine s cols b out room = ap length (sym (stored-laid s cols b out (room refl))) ∙ length-sets out 0 (sizedAll s cols (recordsOf b))
 
-laid-rest : (s : Set) (cols : ℕ) (b out : List ℕ) → drop (length b / 40 * 52) (laidSized s cols b out) ≡ drop (length b / 40 * 52) out
+laid-rest : (s : Set) (cols : ℕ) (b out : List ℕ) → drop (length b / spotWidth * sizedWidth) (laidSized s cols b out) ≡ drop (length b / spotWidth * sizedWidth) out
 unfolding laidSized
-laid-rest s cols b out = drop-at (sizedAll s cols (recordsOf b)) _ (length b / 40 * 52) (length-all s cols b) ∙ ap (λ (k : ℕ). drop k out) (length-all s cols b)
+laid-rest s cols b out = drop-at (sizedAll s cols (recordsOf b)) _ (length b / spotWidth * sizedWidth) (length-all s cols b) ∙ ap (λ (k : ℕ). drop k out) (length-all s cols b)
 
-laid-keeps : (s : Set) (cols : ℕ) (b out : List ℕ) (i : ℕ) → length b / 40 * 52 ≤ i → getD (laidSized s cols b out) i 0 ≡ getD out i 0
+laid-keeps : (s : Set) (cols : ℕ) (b out : List ℕ) (i : ℕ) → length b / spotWidth * sizedWidth ≤ i → getD (laidSized s cols b out) i 0 ≡ getD out i 0
 laid-keeps s cols b out i h =
-    let k : ℕ = length b / 40 * 52 in
+    let k : ℕ = length b / spotWidth * sizedWidth in
     let e : k + (i - k) ≡ i = omega arith in
     rw (← e, ← getD-drop k (laidSized s cols b out) (i - k) 0, laid-rest s cols b out, getD-drop k out (i - k) 0)
 
-joined-keeps : (w : Checked) (s : Set) (cols : ℕ) (b out : List ℕ) (i : ℕ) → length b / 40 * 52 ≤ i → getD (joined w s cols b out .buffer) i 0 ≡ getD out i 0
+joined-keeps : (w : Checked) (s : Set) (cols : ℕ) (b out : List ℕ) (i : ℕ) → length b / spotWidth * sizedWidth ≤ i → getD (joined w s cols b out .buffer) i 0 ≡ getD out i 0
 unfolding joined
 joined-keeps (Bad r) s cols b out i h = refl
 joined-keeps Fine s cols b out i h = laid-keeps s cols b out i h
@@ -101,7 +103,7 @@ module _ (s : Set) (rows cols : ℕ) (list out : List ℕ) where
   length-kept = joined-length _ s cols list out (λ fine. checks-passed s rows cols list (length out) fine .room-enough)
 
   -- bytes past the sized records are kept
-  pub later-kept : (i : ℕ) → length list / 40 * 52 ≤ i → getD (after .buffer) i 0 ≡ getD out i 0
+  pub later-kept : (i : ℕ) → length list / spotWidth * sizedWidth ≤ i → getD (after .buffer) i 0 ≡ getD out i 0
   unfolding joinOf
   later-kept i h = joined-keeps _ s cols list out i h
 
@@ -126,24 +128,24 @@ module _ (s : Set) (rows cols : ℕ) (list out : List ℕ) where
   counted-none n e = order.first-fine checks (answer-counted _ s cols list out n e)
 
   -- and a call with no check that holds answers the record count
-  pub none-counted : ((k : ℕ) → saidAt checks k ≡ Fine) → after .answer ≡ Count (length list / 40)
+  pub none-counted : ((k : ℕ) → saidAt checks k ≡ Fine) → after .answer ≡ Count (length list / spotWidth)
   unfolding joinOf joined
   none-counted h = rw (order.fine-first checks h)
 
   -- the index of refusal 5: the whole record count where the length is at fault, which is looked at first, else that of the first bad record
   pub bad-index : (i : ℕ) → after .answer ≡ Refused (Records i) → WrongLength list i ⊎ FirstBad rows cols list i
   unfolding joinChecks
-  bad-index i e = go (list-refused _ _ (eqb (length list % 40) 0) (ltb (badOf rows cols list) (length list / 40)) _ (length list / 40) (badOf rows cols list) i (refused (Records i) e))
+  bad-index i e = go (list-refused _ _ (eqb (length list % spotWidth) 0) (ltb (badOf rows cols list) (length list / spotWidth)) _ (length list / spotWidth) (badOf rows cols list) i (refused (Records i) e))
     where
-      go : ((eqb (length list % 40) 0 ≡ false) × (i ≡ length list / 40)) ⊎ ((eqb (length list % 40) 0 ≡ true) × (ltb (badOf rows cols list) (length list / 40) ≡ true) × (i ≡ badOf rows cols list))
+      go : ((eqb (length list % spotWidth) 0 ≡ false) × (i ≡ length list / spotWidth)) ⊎ ((eqb (length list % spotWidth) 0 ≡ true) × (ltb (badOf rows cols list) (length list / spotWidth) ≡ true) × (i ≡ badOf rows cols list))
           → WrongLength list i ⊎ FirstBad rows cols list i
       go (inl h) = inl (record { broken = eqb-false _ _ (h .0); count = h .1 })
       go (inr h) =
           let same : i ≡ badOf rows cols list = h .2 in
-          let inside : badOf rows cols list < length list / 40 = ltb-true _ _ (h .1) in
+          let inside : badOf rows cols list < length list / spotWidth = ltb-true _ _ (h .1) in
           inr (record {
             whole = eqb-true _ _ (h .0);
             inside = rw same inside;
-            bad = rw same (bad-unfair rows cols list (length list / 40) 0 (omega arith));
-            earlier = λ k less. fair-before rows cols list (length list / 40) 0 k (omega arith) (omega arith);
+            bad = rw same (bad-unfair rows cols list (length list / spotWidth) 0 (omega arith));
+            earlier = λ k less. fair-before rows cols list (length list / spotWidth) 0 k (omega arith) (omega arith);
           })

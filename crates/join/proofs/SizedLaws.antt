@@ -10,13 +10,13 @@ use lib.Ieee.{Float}
 use Rattle.tables.specs.declared.Set.{Set}
 use Rattle.record.specs.declared.Record.{Record}
 use Rattle.words.specs.Words.{floatBytes}
-use Rattle.record.specs.Layout.{recordBytes, recordAt}
+use Rattle.record.specs.Layout.{spotWidth, recordBytes, recordAt}
 use Rattle.words.proofs.Stores.{sets-append}
 use Rattle.words.proofs.WordsLaws.{length-floatBytes}
 use Rattle.record.proofs.LayoutLaws.{length-recordBytes}
 use Rattle.size.specs.declared.Corrected.{Corrected}
 use Rattle.join.specs.declared.Home.{Home}
-use Rattle.join.specs.Sized.{givenSigma, acceptedOf, sizeOf, homeOf, halfBytes, tailBytes, sizedBytes}
+use Rattle.join.specs.Sized.{sizedWidth, givenSigma, acceptedOf, sizeOf, homeOf, halfBytes, tailBytes, sizedBytes}
 use Rattle.join.specs.Join.{recordsFrom, recordsOf, sizedAll, laidSized, Fit}
 
 -- ---- lengths
@@ -30,12 +30,12 @@ unfolding tailBytes halfBytes
 length-tailBytes size home =
     omega (arith, length-append (floatBytes (givenSigma size)) (halfBytes (home .row) ++ (halfBytes (home .col) ++ (acceptedOf size ∷ 0 ∷ 0 ∷ 0 ∷ []))), length-floatBytes (givenSigma size))
 
-pub length-sizedBytes : (s : Set) (cols : ℕ) (r : Record) → length (sizedBytes s cols r) ≡ 52
+pub length-sizedBytes : (s : Set) (cols : ℕ) (r : Record) → length (sizedBytes s cols r) ≡ sizedWidth
 unfolding sizedBytes
 length-sizedBytes s cols r =
     omega (arith, length-append (recordBytes r) (tailBytes (sizeOf s r) (homeOf cols (r .key))), length-recordBytes r, length-tailBytes (sizeOf s r) (homeOf cols (r .key)))
 
-length-sizedAll : (s : Set) (cols : ℕ) (rs : List Record) → length (sizedAll s cols rs) ≡ length rs * 52
+length-sizedAll : (s : Set) (cols : ℕ) (rs : List Record) → length (sizedAll s cols rs) ≡ length rs * sizedWidth
 unfolding sizedAll
 length-sizedAll s cols [] = refl
 length-sizedAll s cols (r ∷ rs) = omega (arith, length-append (sizedBytes s cols r) (sizedAll s cols rs), length-sizedBytes s cols r, length-sizedAll s cols rs)
@@ -45,8 +45,8 @@ unfolding recordsFrom
 length-recordsFrom b zero i = refl
 length-recordsFrom b (suc n) i = ap suc (length-recordsFrom b n (suc i))
 
-pub length-all : (s : Set) (cols : ℕ) (b : List ℕ) → length (sizedAll s cols (recordsOf b)) ≡ length b / 40 * 52
-length-all s cols b = length-sizedAll s cols (recordsOf b) ∙ ap (λ (n : ℕ). n * 52) (length-recordsFrom b (length b / 40) 0)
+pub length-all : (s : Set) (cols : ℕ) (b : List ℕ) → length (sizedAll s cols (recordsOf b)) ≡ length b / spotWidth * sizedWidth
+length-all s cols b = length-sizedAll s cols (recordsOf b) ∙ ap (λ (n : ℕ). n * sizedWidth) (length-recordsFrom b (length b / spotWidth) 0)
 
 -- ---- stores
 
@@ -71,37 +71,37 @@ pub sized-parts : {b c : List ℕ} {size : Corrected} {home : Home} (a : List �
     → size ≡ sizeOf s r
     → home ≡ homeOf cols (r .key)
     → b ≡ sets a at (recordBytes r)
-    → c ≡ sets b (at + 40) (tailBytes size home)
+    → c ≡ sets b (at + spotWidth) (tailBytes size home)
     → c ≡ sets a at (sizedBytes s cols r)
 unfolding sizedBytes
 sized-parts a at s cols r size-is home-is b-is c-is = simp (sets-append, length-recordBytes) (rw (c-is, b-is, size-is, home-is))
 
 -- the i-th of n records stored, the rest follow it
 pub stored-next : {next : List ℕ} (s : Set) (cols : ℕ) (list out : List ℕ) (n i : ℕ) → i < n
-    → next ≡ sets out (i * 52) (sizedBytes s cols (recordAt list i))
-    → sets out (i * 52) (sizedAll s cols (recordsFrom list (n - i) i)) ≡ sets next ((i + 1) * 52) (sizedAll s cols (recordsFrom list (n - (i + 1)) (i + 1)))
+    → next ≡ sets out (i * sizedWidth) (sizedBytes s cols (recordAt list i))
+    → sets out (i * sizedWidth) (sizedAll s cols (recordsFrom list (n - i) i)) ≡ sets next ((i + 1) * sizedWidth) (sizedAll s cols (recordsFrom list (n - (i + 1)) (i + 1)))
 unfolding sizedAll recordsFrom
 stored-next s cols list out n i h next-is =
     let left : n - i ≡ suc (n - (i + 1)) = omega arith in
     let one : i + 1 ≡ suc i = omega arith in
-    let place : suc i * 52 ≡ i * 52 + 52 = omega arith in
+    let place : suc i * sizedWidth ≡ i * sizedWidth + sizedWidth = omega arith in
     rw (left, one, next-is, place, sets-append (sizedBytes s cols (recordAt list i)), length-sizedBytes)
 
 -- all are left
 pub stored-start : (s : Set) (cols : ℕ) (list out : List ℕ) (n : ℕ)
-    → sets out 0 (sizedAll s cols (recordsFrom list n 0)) ≡ sets out (0 * 52) (sizedAll s cols (recordsFrom list (n - 0) 0))
+    → sets out 0 (sizedAll s cols (recordsFrom list n 0)) ≡ sets out (0 * sizedWidth) (sizedAll s cols (recordsFrom list (n - 0) 0))
 stored-start s cols list out n =
     let all : n - 0 ≡ n = omega arith in
-    let place : 0 * 52 ≡ 0 = omega arith in
+    let place : 0 * sizedWidth ≡ 0 = omega arith in
     rw (all, place)
 
 -- none is left
-pub stored-end : (s : Set) (cols : ℕ) (list out : List ℕ) (n i : ℕ) → n ≤ i → sets out (i * 52) (sizedAll s cols (recordsFrom list (n - i) i)) ≡ out
+pub stored-end : (s : Set) (cols : ℕ) (list out : List ℕ) (n i : ℕ) → n ≤ i → sets out (i * sizedWidth) (sizedAll s cols (recordsFrom list (n - i) i)) ≡ out
 unfolding sizedAll recordsFrom
 stored-end s cols list out n i h = let none : n - i ≡ 0 = omega arith in rw none
 
 -- the buffer as a whole
-pub stored-laid : (s : Set) (cols : ℕ) (list out : List ℕ) → length list / 40 * 52 ≤ length out → sets out 0 (sizedAll s cols (recordsOf list)) ≡ laidSized s cols list out
+pub stored-laid : (s : Set) (cols : ℕ) (list out : List ℕ) → length list / spotWidth * sizedWidth ≤ length out → sets out 0 (sizedAll s cols (recordsOf list)) ≡ laidSized s cols list out
 unfolding laidSized
 stored-laid s cols list out h =
     let sized : List ℕ = sizedAll s cols (recordsOf list) in

@@ -4,17 +4,17 @@ use mathlib.Core.Bool.{true, false}
 use mathlib.Core.List.{List}
 use mathlib.Core.Path.{_≡_}
 use lib.ListN.{length}
-use Rattle.record.specs.Layout.{recordAt}
+use Rattle.record.specs.Layout.{spotWidth, recordAt}
 use Rattle.record.specs.Readable.{readable}
 
--- a list's length is no multiple of 40, and i is its whole record count
+-- a list's length is no multiple of a record's width, and i is its whole record count
 pub record WrongLength (b : List ℕ) (i : ℕ) : Type 0 where
-  pub broken : length b % 40 ≡ 0 → ⊥
-  pub count : i ≡ length b / 40
+  pub broken : length b % spotWidth ≡ 0 → ⊥
+  pub count : i ≡ length b / spotWidth
 
--- a list's length is a multiple of 40, and its i-th record is the first bad one
+-- a list's length is a multiple of a record's width, and its i-th record is the first bad one
 pub record FirstBad (rows cols : ℕ) (b : List ℕ) (i : ℕ) : Type 0 where
-  pub whole : length b % 40 ≡ 0
-  pub inside : i < length b / 40
+  pub whole : length b % spotWidth ≡ 0
+  pub inside : i < length b / spotWidth
   pub bad : readable rows cols (recordAt b i) ≡ false
   pub earlier : (k : ℕ) → k < i → readable rows cols (recordAt b k) ≡ true

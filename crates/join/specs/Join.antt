@@ -10,9 +10,9 @@ use Rattle.tables.specs.declared.Checked.{Checked}
 use Rattle.tables.specs.declared.Checked.the-variants.{Fine, Bad}
 use Rattle.tables.specs.Refusal.{Check, _when_, firstOf, sidesCheck, setCheck}
 use Rattle.record.specs.declared.Record.{Record}
-use Rattle.record.specs.Layout.{recordAt}
+use Rattle.record.specs.Layout.{spotWidth, recordAt}
 use Rattle.record.specs.Readable.{readable}
-use Rattle.join.specs.Sized.{sizedBytes}
+use Rattle.join.specs.Sized.{sizedWidth, sizedBytes}
 use Rattle.join.specs.declared.Joined.{Joined}
 use Rattle.join.specs.declared.Joined.the-variants.{Count, Refused}
 
@@ -23,7 +23,7 @@ recordsFrom b (suc n) i = recordAt b i ∷ recordsFrom b n (suc i)
 
 -- a list's records
 abbrev pub recordsOf : List ℕ → List Record
-recordsOf b = recordsFrom b (length b / 40) 0
+recordsOf b = recordsFrom b (length b / spotWidth) 0
 
 -- the index of the first of n records, from the i-th on, that is bad; i + n where none is
 unfoldable pub firstBad : ℕ → ℕ → List ℕ → ℕ → ℕ → ℕ
@@ -32,17 +32,17 @@ firstBad rows cols b (suc n) i = cond (readable rows cols (recordAt b i)) (first
 
 -- the index of a list's first bad record; their number where none is
 abbrev pub badOf : ℕ → ℕ → List ℕ → ℕ
-badOf rows cols b = firstBad rows cols b (length b / 40) 0
+badOf rows cols b = firstBad rows cols b (length b / spotWidth) 0
 
--- the join's checks in their order. 1: a side is too long; 4: the set is not good; 5: the length is no multiple of 40, with the whole record count;
+-- the join's checks in their order. 1: a side is too long; 4: the set is not good; 5: the length is no multiple of a record's width, with the whole record count;
 -- 5: a record is bad, with the first one's index; 6: the buffer is shorter than needed
 unfoldable pub joinChecks : Set → ℕ → ℕ → List ℕ → ℕ → List Check
 joinChecks s rows cols b room =
     sidesCheck rows cols
     ∷ setCheck s
-    ∷ (Records (length b / 40) when not (eqb (length b % 40) 0))
-    ∷ (Records (badOf rows cols b) when ltb (badOf rows cols b) (length b / 40))
-    ∷ (Room when ltb room (length b / 40 * 52))
+    ∷ (Records (length b / spotWidth) when not (eqb (length b % spotWidth) 0))
+    ∷ (Records (badOf rows cols b) when ltb (badOf rows cols b) (length b / spotWidth))
+    ∷ (Room when ltb room (length b / spotWidth * sizedWidth))
     ∷ []
 
 -- sized records, one after the other
@@ -66,7 +66,7 @@ laidSized s cols b out = let sized = sizedAll s cols (recordsOf b) in sized ++ d
 -- a refusal writes nothing; otherwise the record count is answered, and the bytes past the sized records are kept
 unfoldable pub joined : Checked → Set → ℕ → List ℕ → List ℕ → Outcome
 joined (Bad r) s cols b out = outcome (Refused r) out
-joined Fine s cols b out = outcome (Count (length b / 40)) (laidSized s cols b out)
+joined Fine s cols b out = outcome (Count (length b / spotWidth)) (laidSized s cols b out)
 
 -- the whole of the join
 unfoldable pub joinOf : Set → ℕ → ℕ → List ℕ → List ℕ → Outcome

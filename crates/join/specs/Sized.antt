@@ -13,6 +13,10 @@ use Rattle.size.specs.declared.Corrected.{Corrected}
 use Rattle.size.specs.declared.Corrected.the-variants.{Sigma, NoSize}
 use Rattle.join.specs.declared.Home.{Home}
 
+-- how many bytes a sized record has: the spot record's, and twelve more
+abbrev pub sizedWidth : ℕ
+sizedWidth = 52
+
 -- the corrected sigma; where no size is given it is +0.0
 unfoldable pub givenSigma : Corrected → Float
 givenSigma (Sigma sigma) = sigma
@@ -43,6 +47,6 @@ halfBytes v = v % 256 ∷ v / 256 ∷ []
 unfoldable pub tailBytes : Corrected → Home → List ℕ
 tailBytes size home = floatBytes (givenSigma size) ++ (halfBytes (home .row) ++ (halfBytes (home .col) ++ (acceptedOf size ∷ 0 ∷ 0 ∷ 0 ∷ [])))
 
--- the 52 bytes
+-- its bytes
 unfoldable pub sizedBytes : Set → ℕ → Record → List ℕ
 sizedBytes s cols r = recordBytes r ++ tailBytes (sizeOf s r) (homeOf cols (r .key))

@@ -2,8 +2,11 @@
 ghost use mathlib.Core.Path.{_≡_};
 ghost use Prim.Native.Nat.{_/_, _≤_};
 ghost use lib.ListN.{length};
+ghost use Rattle.record.specs.Layout.{spotWidth};
 ghost use Rattle.tables.specs.Refusal.{firstOf};
 ghost use Rattle.join.specs.Join.{firstBad, joinChecks};
+use crate::SIZED_WIDTH;
+use record::SPOT_WIDTH;
 use tables::Checked;
 use tables::Refusal;
 use tables::Set;
@@ -12,12 +15,12 @@ use tables::Set;
 fn first_bad(rows: usize, cols: usize, list: &[u8]) -> usize
     requires { ⌜ rows ≤ 4096 ⌝ }
     requires { ⌜ cols ≤ 4096 ⌝ }
-    ensures { λ r. ⌜ r ≡ firstBad rows cols (now (list .entry)) (length (now (list .entry)) / 40) 0 ⌝ }
+    ensures { λ r. ⌜ r ≡ firstBad rows cols (now (list .entry)) (length (now (list .entry)) / spotWidth) 0 ⌝ }
 {
-    let count = list.len() / 40;
+    let count = list.len() / SPOT_WIDTH;
     let mut i: usize = 0;
     while i < count {
-        if !record::is_readable(rows, cols, record::record_from(list, i * 40)) {
+        if !record::is_readable(rows, cols, record::record_from(list, i * SPOT_WIDTH)) {
             return i;
         }
         i += 1;
@@ -33,8 +36,8 @@ pub fn checked(set: Set, rows: usize, cols: usize, list: &[u8], room: usize) -> 
         return Checked::Bad(Refusal::Size);
     }
     let good = tables::is_good(set);
-    let count = list.len() / 40;
-    let whole = list.len() % 40 == 0;
+    let count = list.len() / SPOT_WIDTH;
+    let whole = list.len() % SPOT_WIDTH == 0;
     if !good {
         return Checked::Bad(Refusal::BadSet);
     }
@@ -45,7 +48,7 @@ pub fn checked(set: Set, rows: usize, cols: usize, list: &[u8], room: usize) -> 
     if bad < count {
         return Checked::Bad(Refusal::Records(bad));
     }
-    if room / 52 < count {
+    if room / SIZED_WIDTH < count {
         return Checked::Bad(Refusal::Room);
     }
     Checked::Fine

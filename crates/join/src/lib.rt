@@ -8,6 +8,9 @@ use tables::Checked;
 use tables::Refusal;
 use tables::Set;
 
+// How many bytes a sized record has: the spot record's, and twelve more.
+pub const SIZED_WIDTH: usize = 52;
+
 // What the join answers: how many records it sized, or why it refused.
 pub enum Joined {
     Count(usize),
@@ -20,7 +23,7 @@ pub struct Home {
     pub col: usize,
 }
 
-// Sizes the records of a list found on a map of rows by cols: 52 bytes for each, in the list's order, in the buffer out.
+// Sizes the records of a list found on a map of rows by cols: SIZED_WIDTH bytes for each, in the list's order, in the buffer out.
 pub fn join(set: Set, rows: usize, cols: usize, list: &[u8], out: &mut [u8]) -> Joined
     ensures { λ r. ⌜ outcome r (now (out .exit)) ≡ joinOf set rows cols (now (list .entry)) (now (out .entry)) ⌝ }
 {

@@ -4,12 +4,15 @@ ghost use mathlib.Core.List.{[], _∷_};
 ghost use Prim.Native.Nat.{_+_, _*_, _/_, _<_, _≤_, _^_};
 ghost use lib.ListN.{length};
 ghost use lib.Seq.{sets};
-ghost use Rattle.join.specs.Sized.{givenSigma, acceptedOf, halfBytes, tailBytes, homeOf, sizeOf, sizedBytes};
+ghost use Rattle.record.specs.Layout.{spotWidth};
+ghost use Rattle.join.specs.Sized.{sizedWidth, givenSigma, acceptedOf, halfBytes, tailBytes, homeOf, sizeOf, sizedBytes};
 ghost use Rattle.tables.specs.declared.Checked.the-variants.{Fine};
 ghost use Rattle.tables.specs.Refusal.{firstOf};
 ghost use Rattle.join.specs.Join.{recordsFrom, sizedAll, joinChecks, Fit};
 use crate::Home;
+use crate::SIZED_WIDTH;
 use record::Record;
+use record::SPOT_WIDTH;
 use size::Corrected;
 use tables::Set;
 
@@ -81,34 +84,34 @@ fn put_tail(out: &mut [u8], at: usize, size: Corrected, home: Home)
     words::put_bytes(out, at + 8, accepted_of(size), 0, 0, 0);
 }
 
-// A record's 52 bytes from the byte at on.
+// A sized record's bytes from the byte at on.
 fn put_sized(out: &mut [u8], at: usize, set: Set, rows: usize, cols: usize, r: Record)
-    requires { ⌜ at + 52 ≤ length (now out) ⌝ }
+    requires { ⌜ at + sizedWidth ≤ length (now out) ⌝ }
     requires { ⌜ Fit rows cols r ⌝ }
     ensures { λ _. ⌜ now (out .exit) ≡ sets (now (out .entry)) at (sizedBytes set cols r) ⌝ }
 {
     record::put_record(out, at, r);
     let size = size_of(set, r);
     let home = home_of(cols, r.key);
-    put_tail(out, at + 40, size, home);
+    put_tail(out, at + SPOT_WIDTH, size, home);
 }
 
 // All records of the list, sized, from the buffer's start on; answers how many.
 pub fn put_all(set: Set, rows: usize, cols: usize, list: &[u8], out: &mut [u8]) -> usize
     requires { ⌜ firstOf (joinChecks set rows cols (now list) (length (now out))) ≡ Fine ⌝ }
-    ensures { λ r. ⌜ (r ≡ length (now (list .entry)) / 40)
-        × (now (out .exit) ≡ sets (now (out .entry)) 0 (sizedAll set cols (recordsFrom (now (list .entry)) (length (now (list .entry)) / 40) 0))) ⌝ }
+    ensures { λ r. ⌜ (r ≡ length (now (list .entry)) / spotWidth)
+        × (now (out .exit) ≡ sets (now (out .entry)) 0 (sizedAll set cols (recordsFrom (now (list .entry)) (length (now (list .entry)) / spotWidth) 0))) ⌝ }
 {
-    let count = list.len() / 40;
+    let count = list.len() / SPOT_WIDTH;
     let mut i: usize = 0;
     while i < count {
         put_sized(
             out,
-            i * 52,
+            i * SIZED_WIDTH,
             set,
             rows,
             cols,
-            record::record_from(list, i * 40),
+            record::record_from(list, i * SPOT_WIDTH),
         );
         i += 1;
     }

@@ -5,16 +5,17 @@ use Prim.Native.Nat.{_/_, _-_, _≤_}
 use native.Mathlib.Omega.{arith}
 use lib.ListN.{length}
 use borrow.Author.Tests.{not-true, not-false}
+use Rattle.record.specs.Layout.{spotWidth}
 use Rattle.join.specs.Join.{firstBad}
 use Rattle.join.proofs.CheckLaws.{bad-start, bad-here, bad-further, bad-end}
 use Rattle.join.proofs.check.first_bad.Statement.{statement}
 use Rattle.join.proofs.check.first_bad.Tie as tie
 
 abbrev Inv-loop : tie.InvT-loop
-Inv-loop rows cols list count i₀ i = (i ≤ length list / 40) × (firstBad rows cols list (length list / 40) 0 ≡ firstBad rows cols list (length list / 40 - i) i)
+Inv-loop rows cols list count i₀ i = (i ≤ length list / spotWidth) × (firstBad rows cols list (length list / spotWidth) 0 ≡ firstBad rows cols list (length list / spotWidth - i) i)
 
 abbrev μ-loop : tie.MeasureT-loop
-μ-loop rows cols list count i₀ i = length list / 40 - i
+μ-loop rows cols list count i₀ i = length list / spotWidth - i
 
 loop-holds : tie.Need-loop-holds Inv-loop μ-loop
 loop-holds c = (omega arith, bad-start _ _ _ _)

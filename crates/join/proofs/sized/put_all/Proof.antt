@@ -5,6 +5,8 @@ use mathlib.Core.Path.{_≡_, refl, sym, _∙_}
 use lib.ListN.{length}
 use lib.Seq.{sets}
 use Rattle.record.proofs.ReadableLaws.{readable-parts}
+use Rattle.record.specs.Layout.{spotWidth}
+use Rattle.join.specs.Sized.{sizedWidth}
 use Rattle.join.specs.Join.{recordsFrom, sizedAll}
 use Rattle.join.proofs.CheckLaws.{checks-passed}
 use Rattle.join.proofs.SizedLaws.{stored-start, stored-next, stored-end}
@@ -13,12 +15,12 @@ use Rattle.join.proofs.sized.put_all.Tie as tie
 
 abbrev Inv-loop : tie.InvT-loop
 Inv-loop set rows cols list out₀ count i₀ out i =
-    (i ≤ length list / 40)
+    (i ≤ length list / spotWidth)
     × ((length out ≡ length out₀)
-    × (sets out₀ 0 (sizedAll set cols (recordsFrom list (length list / 40) 0)) ≡ sets out (i * 52) (sizedAll set cols (recordsFrom list (length list / 40 - i) i))))
+    × (sets out₀ 0 (sizedAll set cols (recordsFrom list (length list / spotWidth) 0)) ≡ sets out (i * sizedWidth) (sizedAll set cols (recordsFrom list (length list / spotWidth - i) i))))
 
 abbrev μ-loop : tie.MeasureT-loop
-μ-loop set rows cols list out₀ count i₀ out i = length list / 40 - i
+μ-loop set rows cols list out₀ count i₀ out i = length list / spotWidth - i
 
 loop-holds : tie.Need-loop-holds Inv-loop μ-loop
 loop-holds c = (omega arith, (refl, stored-start _ _ _ _ _))
