@@ -4,14 +4,10 @@ use native.Mathlib.Omega.{arith}
 use mathlib.Core.Path.{_≡_, refl, sym, _∙_}
 use mathlib.Core.Bool.{Bool, true, false, cond, _&&_}
 use mathlib.Core.List.{List}
-use lib.Dec.{ltb}
 use lib.ListN.{length}
 use lib.Ieee.{Float}
-use borrow.Author.Tests.{ltb-false}
-use Rattle.float.proofs.Bools.{neither}
 use Rattle.tables.specs.declared.Set.{Set}
 use Rattle.tables.specs.declared.Thresholds.{Thresholds}
-use Rattle.tables.specs.declared.Refusal.the-variants.{Size, Octave}
 use Rattle.fit.specs.Near.{same}
 use Rattle.fit.specs.Prims.{Prims, Allowed, ours}
 use Rattle.fit.specs.Band.{bandBy}
@@ -30,10 +26,9 @@ use Rattle.pixel.specs.Rules.{cubicsAt, ownSamples, ownCubic}
 use Rattle.alp.specs.Level.{Maps, mapsOf, samplesAt, nineAt, Within}
 use Rattle.alp.specs.Due.{due}
 use Rattle.alp.specs.Detect.{detectOf}
-use Rattle.alp.specs.Refusals.{applies}
 use Rattle.alp.specs.declared.Answer.the-variants.{Found}
 use Rattle.alp.proofs.LevelLaws.{length-nine}
-use Rattle.alp.proofs.RefusalsLaws.{found-none}
+use Rattle.alp.proofs.RefusalsLaws.{found-passed}
 use Rattle.zeros.specs.Choices.{Choices, AllAllowed, allOurs, judgeBy, pixelDueBy, rowDueBy, rowsDueBy, dueBy}
 use Rattle.zeros.specs.Alike.{RecordsNear}
 use Rattle.zeros.proofs.ListNear.{due-ours, due~}
@@ -127,11 +122,7 @@ module _ (s : Set) (th : Thresholds) (rows cols octave : ℕ) (l0 l1 l2 l3 : Lis
   maps = mapsOf l0 l1 l2 l3 (record { rows = rows; cols = cols; octave = octave }) s th
 
   in-range : (rows ≤ 4096) × (cols ≤ 4096) × (octave ≤ 5)
-  unfolding applies
-  in-range =
-      let none = found-none s th rows cols octave l0 l1 l2 l3 out n found in
-      let sides = neither (ltb 4096 rows) (ltb 4096 cols) (none Size) in
-      (ltb-false 4096 rows (sides .0), ltb-false 4096 cols (sides .1), ltb-false 5 octave (none Octave))
+  in-range = let passed = found-passed s th rows cols octave l0 l1 l2 l3 out n found in (passed .sized .rows-most, passed .sized .cols-most, passed .octave-most)
 
   -- A call of detection that is not refused lists what the Rust's own tests let through,
   pub found-by-the-rust : rustDue maps ≡ due maps

@@ -8,11 +8,10 @@ use lib.ListN.{length, getD, take, drop}
 use lib.Seq.{take-take}
 use lib.Dec.{ltb}
 use lib.Ieee.{Float}
-use borrow.Author.Tests.{ltb-false, le-ltb, eq-eqb}
-use Rattle.float.proofs.Bools.{neither}
+use borrow.Author.Tests.{le-ltb, eq-eqb}
 use Rattle.tables.specs.declared.Set.{Set}
 use Rattle.tables.specs.declared.Thresholds.{Thresholds}
-use Rattle.tables.specs.declared.Refusal.the-variants.{Size, BadSet, Records, Room}
+use Rattle.tables.specs.declared.Refusal.the-variants.{BadSet, Records, Room}
 use Rattle.tables.specs.declared.Checked.the-variants.{Fine, Bad}
 use Rattle.tables.specs.Refusal.{unless, firstOf}
 use Rattle.tables.specs.Set.{good}
@@ -25,9 +24,8 @@ use Rattle.record.proofs.Converse.{same-bytes-same-record}
 use Rattle.alp.specs.Level.{Maps, mapsOf}
 use Rattle.alp.specs.Due.{due}
 use Rattle.alp.specs.Detect.{Outcome, detectOf}
-use Rattle.alp.specs.Refusals.{applies}
 use Rattle.alp.specs.declared.Answer.the-variants.{Found}
-use Rattle.alp.proofs.RefusalsLaws.{found-none}
+use Rattle.alp.proofs.RefusalsLaws.{found-passed}
 use Rattle.join.specs.Sized.{sizedWidth}
 use Rattle.join.specs.Join.{firstBad, joinChecks, joined, joinOf}
 use Rattle.demands.specs.List.{StandsAt}
@@ -135,11 +133,9 @@ module _ (s : Set) (th : Thresholds) (rows cols octave : ℕ) (l0 l1 l2 l3 : Lis
 
   -- The records that a call of detection wrote are accepted by the join with the same rows and cols: there is no refusal 5, and with a good set and room for the sized records their count is answered.
   pub output-joined : (n : ℕ) → after .answer ≡ Found n → Joins rows cols found (written found out) (take (written found out * spotWidth) (after .buffer))
-  unfolding applies
   output-joined n h =
-      let none = found-none s th rows cols octave l0 l1 l2 l3 out n h in
-      let sides = neither (ltb 4096 rows) (ltb 4096 cols) (none Size) in
+      let sides = found-passed s th rows cols octave l0 l1 l2 l3 out n h .sized in
       let m : Maps = mapsOf l0 l1 l2 l3 (record { rows = rows; cols = cols; octave = octave }) s th in
       let wrote : after .buffer ≡ laid found out = unfold detectOf in ap (λ (o : Outcome). o .buffer) (answered _ m out n h) in
       subst (λ (b : List ℕ). Joins rows cols found (written found out) (take (written found out * spotWidth) b)) (sym wrote)
-      (joins m out (ltb-false 4096 rows (sides .0)) (ltb-false 4096 cols (sides .1)))
+      (joins m out (sides .rows-most) (sides .cols-most))
