@@ -1,2 +1,4 @@
 -- The worked cases, in one table.
+pub mod Case
+pub mod MapM
 pub mod Table

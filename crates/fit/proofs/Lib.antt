@@ -4,4 +4,3 @@ pub mod Agree
 pub mod CubicLaws
 pub mod BandLaws
 pub mod Unique
-pub mod Cases

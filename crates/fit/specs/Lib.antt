@@ -6,4 +6,3 @@ pub mod Envelope
 pub mod Extrema
 pub mod Band
 pub mod Owns
-pub mod Cases

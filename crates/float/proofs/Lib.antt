@@ -15,4 +15,3 @@ pub mod LogClaims
 pub mod ExpClaims
 pub mod SmallClaims
 pub mod Unique
-pub mod Cases

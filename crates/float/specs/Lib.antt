@@ -7,4 +7,3 @@ pub mod Square
 pub mod Log
 pub mod Exp
 pub mod Claims
-pub mod Cases

@@ -1,4 +1,4 @@
--- What the promises of the pyramid's helpers settle: the octave count's bounds and worked cases, the halved level's pixels, what is kept, and the
+-- What the promises of the pyramid's helpers settle: the octave count's bounds, the halved level's pixels, what is kept, and the
 -- refusals. Assumes nothing.
 use Prim.Native.Nat.{ℕ, _+_, _*_, _/_, _-_, _≤_, _<_}
 use native.Mathlib.Omega.{arith}
@@ -73,27 +73,6 @@ octaves-most d =
 pub octave-count-most : (rows cols : ℕ) → octaveCountOf rows cols ≤ 6
 unfolding octaveCountOf
 octave-count-most rows cols = octaves-most _
-
--- P7: a shortest side of 9 gives 0, 10 gives 1, 64 gives 1, 65 gives 2, and 1,025 gives 6
-pub count-of-9 : octaveCountOf 9 9 ≡ 0
-unfolding octaveCountOf octavesOf
-count-of-9 = refl
-
-pub count-of-10 : octaveCountOf 10 10 ≡ 1
-unfolding octaveCountOf octavesOf
-count-of-10 = refl
-
-pub count-of-64 : octaveCountOf 64 64 ≡ 1
-unfolding octaveCountOf octavesOf
-count-of-64 = refl
-
-pub count-of-65 : octaveCountOf 65 65 ≡ 2
-unfolding octaveCountOf octavesOf
-count-of-65 = refl
-
-pub count-of-1025 : octaveCountOf 1025 1025 ≡ 6
-unfolding octaveCountOf octavesOf
-count-of-1025 = refl
 
 -- ---- over the outcome of the checks
 

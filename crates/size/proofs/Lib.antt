@@ -1,4 +1,3 @@
 -- Laws of the correction, and what their proofs cite.
 pub mod CorrectLaws
 pub mod ZeroSign
-pub mod Cases

@@ -3,4 +3,3 @@ pub mod Four
 pub mod Profile
 pub mod Correct
 pub mod Claims
-pub mod Cases

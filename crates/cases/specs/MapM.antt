@@ -1,0 +1,46 @@
+-- Document 01's map M, and a case of the list that is due for it. Definitions only.
+use Prim.Native.Nat.{ℕ, _+_, _*_}
+use mathlib.Core.List.{List, [], _∷_}
+use lib.ListN.{replicate, set}
+use lib.Ieee.{Float, binary32, ofBits}
+use Rattle.float.specs.Num.{f0}
+use Rattle.tables.specs.SetT.{setT}
+use Rattle.record.specs.Layout.{bytesOf}
+use Rattle.alp.specs.Level.{Maps, mapsOf}
+use Rattle.alp.specs.Due as dues
+use Rattle.cases.specs.Case.{Case}
+
+-- a level of 9 rows and 10 cols, all 0
+unfoldable pub zeros : List Float
+zeros = replicate 90 f0
+
+-- a level of 9 rows with the value of a bit pattern put at (row, col)
+unfoldable pub put : ℕ → ℕ → ℕ → List Float → List Float
+put row col pattern l = set l (col * 9 + row) (ofBits binary32 pattern)
+
+-- map M's level 0: all 0 but (4,4): 0.25
+unfoldable pub levelM : List Float
+levelM = put 4 4 0x3e800000 zeros
+
+-- map M with this level 0: -0.25 at (4,4) of level 1; octave 0, set T, thresholds 1, 1, 10, window 1.9027314 to 4.1498866
+unfoldable pub mapM : List Float → Maps
+mapM l0 =
+    mapsOf l0 (put 4 4 0xbe800000 zeros) zeros zeros (record { rows = 9; cols = 10; octave = 0 }) setT
+    (record {
+      peak = ofBits binary32 0x3f800000;
+      sigma = ofBits binary32 0x3f800000;
+      ratio = ofBits binary32 0x41200000;
+      low = ofBits binary32 0x3ff38cb4;
+      high = ofBits binary32 0x4084cbdf;
+    })
+
+-- the 40 bytes of map M's one spot
+unfoldable pub bytesM : List ℕ
+bytesM =
+    0x00 ∷ 0x00 ∷ 0x90 ∷ 0x40 ∷ 0x00 ∷ 0x00 ∷ 0x80 ∷ 0x40 ∷ 0x00 ∷ 0x00 ∷ 0x00 ∷ 0x40 ∷ 0x00 ∷ 0x00 ∷ 0x80 ∷ 0x40
+    ∷ 0x00 ∷ 0x00 ∷ 0x80 ∷ 0xbf ∷ 0x00 ∷ 0x00 ∷ 0x80 ∷ 0x40 ∷ 0x00 ∷ 0x00 ∷ 0x00 ∷ 0x00 ∷ 0x00 ∷ 0x00 ∷ 0x00 ∷ 0x00
+    ∷ 0x2c ∷ 0x00 ∷ 0x00 ∷ 0x00 ∷ 0x00 ∷ 0x01 ∷ 0x01 ∷ 0x00 ∷ []
+
+-- the bytes of the list that is due for map M with this level 0
+unfoldable pub mapCase : List Float → List ℕ → Case
+mapCase l0 bytes = record { given = bytesOf (dues.due (mapM l0)); due = bytes }
