@@ -7,6 +7,10 @@ ghost use mathlib.Core.Path.{_≡_};
 ghost use Rattle.tables.specs.Refusal.{readSetOf};
 ghost use Rattle.alp_c.specs.Face.{packed, left, thresholdsOf, detectFace, checkFace};
 use alp::Answer;
+pub use correction::uramsheg_correct;
+pub use octaves::uramsheg_downsample;
+pub use octaves::uramsheg_octave_count;
+pub use sized::uramsheg_join;
 use tables::Checked;
 use tables::Thresholds;
 
