@@ -49,10 +49,6 @@ module _ (s : Set) (th : Thresholds) (rows cols octave : ℕ) (l0 l1 l2 l3 : Lis
   abbrev after : Outcome
   after = detectOf s th rows cols octave l0 l1 l2 l3 out
 
-  -- two answers that the promise allows are equal, with their buffers
-  pub detect-only : (r r' : Answer) (o o' : List ℕ) → outcome r o ≡ after → outcome r' o' ≡ after → (r ≡ r') × (o ≡ o')
-  detect-only r r' o o' p q = (ap (λ (x : Outcome). x .answer) (p ∙ sym q), ap (λ (x : Outcome). x .buffer) (p ∙ sym q))
-
   -- the answer does not depend on the buffer: a short one is no refusal, and the full count is answered
   pub answer-same : (out' : List ℕ) → after .answer ≡ detectOf s th rows cols octave l0 l1 l2 l3 out' .answer
   unfolding detectOf

@@ -36,14 +36,3 @@ pub sample-around : (l : List Float) (rows row col : ℕ) (sigma : Float) → le
     ≡ sampleAt l rows row col sigma
 unfolding sampleAt pixelAt
 sample-around l rows row col sigma = rw (right-place rows row col, down-place rows row col)
-
--- ---- two answers that a promise allows are equal
-
-pub pixel-only : (l : List Float) (rows row col : ℕ) (r r' : Float) → r ≡ pixelAt l rows row col → r' ≡ pixelAt l rows row col → r ≡ r'
-pixel-only l rows row col r r' p q = p ∙ sym q
-
-pub sample-only : (l : List Float) (rows row col : ℕ) (sigma r r' : Float) → r ≡ sampleAt l rows row col sigma → r' ≡ sampleAt l rows row col sigma → r ≡ r'
-sample-only l rows row col sigma r r' p q = p ∙ sym q
-
-pub view-only : (pixels : RefT (List Float)) (rows : ℕ) (v v' : LevelView) → (v .pixels ≡ pixels) × (v .rows ≡ rows) → (v' .pixels ≡ pixels) × (v' .rows ≡ rows) → v ≡ v'
-view-only pixels rows v v' p q i = record { pixels = (p .0 ∙ sym (q .0)) i; rows = (p .1 ∙ sym (q .1)) i }

@@ -70,25 +70,6 @@ pub bad-record-four : (b : List ℕ) → goodRecord b ≡ false → checkFace (r
 unfolding checkFace refusedSet number
 bad-record-four b e = rw (bad-record-refused b e)
 
-pub set-check-only : (b : List ℕ) (r r' : ℕ) → r ≡ checkFace (readSetOf b .answer) → r' ≡ checkFace (readSetOf b .answer) → r ≡ r'
-set-check-only b r r' p q = p ∙ sym q
-
--- ---- one answer for each call
-
--- two answers that the join's promise allows are equal, with their values and buffers
-pub join-face-only : (b : List ℕ) (rows cols : ℕ) (list out : List ℕ) (x y : Left) → x ≡ joinFace b rows cols list out → y ≡ joinFace b rows cols list out → x ≡ y
-join-face-only b rows cols list out x y p q = p ∙ sym q
-
--- those of the correction, with the lent float
-pub correct-face-only : (b : List ℕ) (l : List Float) (sigma : Float) (isMax : Bool) (before : Float) (x y : SizeLeft) → x ≡ correctFace b l sigma isMax before
-    → y ≡ correctFace b l sigma isMax before → x ≡ y
-correct-face-only b l sigma isMax before x y p q = p ∙ sym q
-
--- those of downsample, with the lent sides and the buffer
-pub downsample-face-only : (rows cols : ℕ) (level out : List Float) (halfrows halfcols : ℕ) (x y : HalvedLeft) → x ≡ downsampleFace rows cols level out halfrows halfcols
-    → y ≡ downsampleFace rows cols level out halfrows halfcols → x ≡ y
-downsample-face-only rows cols level out halfrows halfcols x y p q = p ∙ sym q
-
 -- ---- detection
 
 number-told : (w : Refusal) → number w ≡ 4 → w ≡ BadSet
@@ -120,10 +101,6 @@ module _ (b : List ℕ) (th : Thresholds) (rows cols octave : ℕ) (l0 l1 l2 l3 
 
   abbrev wrong : Refusal → Bool
   wrong r = applies r s rows cols octave l0 l1 l2 l3
-
-  -- two answers that the promise allows are equal, with their values and buffers
-  pub detect-face-only : (x y : Left) → x ≡ after → y ≡ after → x ≡ y
-  detect-face-only x y p q = p ∙ sym q
 
   set-wrong : goodRecord b ≡ false → wrong BadSet ≡ true
   unfolding applies

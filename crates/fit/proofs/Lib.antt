@@ -3,4 +3,3 @@ pub mod Finite
 pub mod Agree
 pub mod CubicLaws
 pub mod BandLaws
-pub mod Unique

@@ -14,4 +14,3 @@ mod LogValue
 pub mod LogClaims
 pub mod ExpClaims
 pub mod SmallClaims
-pub mod Unique

@@ -88,10 +88,6 @@ module _ (s : Set) (rows cols : ℕ) (list out : List ℕ) where
   abbrev checks : List Check
   checks = joinChecks s rows cols list (length out)
 
-  -- two answers that the promise allows are equal, with their buffers
-  pub join-only : (r r' : Joined) (o o' : List ℕ) → outcome r o ≡ after → outcome r' o' ≡ after → (r ≡ r') × (o ≡ o')
-  join-only r r' o o' p q = (ap (λ (x : Outcome). x .answer) (p ∙ sym q), ap (λ (x : Outcome). x .buffer) (p ∙ sym q))
-
   -- a refusal writes nothing
   pub refused-keeps : (r : Refusal) → after .answer ≡ Refused r → after .buffer ≡ out
   unfolding joinOf

@@ -98,9 +98,3 @@ module _ (b : List ℕ) where
   pub list-found : (n : ℕ) → listChecks b ≡ Fine → detectFrom b [] .answer ≡ Found n → listOutput b ≡ linesOf (take 1600 (due (mapsFrom b))) ++ foundLine n
   unfolding listOutput checkedOutput tileOutput printed
   list-found n h e = rw (h, e)
-
--- ---- what the promise settles
-
--- two outputs that the promise allows are equal
-pub list-only : (b out out' : List ℕ) (r r' : ℕ) → Begins out r (listOutput b) → Begins out' r' (listOutput b) → (r ≡ r') × (take r out ≡ take r' out')
-list-only b out out' r r' p q = (p .count ∙ sym (q .count), p .bytes ∙ sym (q .bytes))

@@ -22,10 +22,6 @@ use Rattle.pyramid.proofs.HalvedLaws.{halved-pixel, pixel-before, lengt
 
 -- ---- the octave count
 
--- two answers that the promise allows are equal
-pub octave-count-only : (rows cols r r' : ℕ) → r ≡ octaveCountOf rows cols → r' ≡ octaveCountOf rows cols → r ≡ r'
-octave-count-only rows cols r r' p q = p ∙ sym q
-
 chosen-most : (b : Bool) (n m k : ℕ) → n ≤ k → m ≤ k → cond b n m ≤ k
 chosen-most true n m k h g = h
 chosen-most false n m k h g = g
@@ -123,10 +119,6 @@ module _ (rows cols : ℕ) (l out : List Float) where
 
   abbrev after : Outcome
   after = downsampleOf rows cols l out
-
-  -- two answers that the promise allows are equal, with their buffers
-  pub downsample-only : (r r' : Halved) (o o' : List Float) → outcome r o ≡ after → outcome r' o' ≡ after → (r ≡ r') × (o ≡ o')
-  downsample-only r r' o o' p q = (ap (λ (x : Outcome). x .answer) (p ∙ sym q), ap (λ (x : Outcome). x .buffer) (p ∙ sym q))
 
   -- the new sides are half the sides
   pub sides-halved : (h w : ℕ) → after .answer ≡ Sides h w → (h ≡ halfOf rows cols) × (w ≡ halfOf cols rows)

@@ -1,6 +1,6 @@
 -- What the lending refinement leaves.
-use mathlib.Core.Path.{_≡_, refl, sym, _∙_}
-use mathlib.Core.Bool.{Bool, true, false}
+use mathlib.Core.Path.{_≡_, refl}
+use mathlib.Core.Bool.{true, false}
 use mathlib.Core.List.{List}
 use lib.Ieee.{Float}
 use Rattle.tables.specs.declared.Set.{Set}
@@ -9,7 +9,6 @@ use Rattle.refine.specs.Lend.{leftOf, lentOf}
 use Rattle.refine.specs.declared.Spot.{Spot}
 use Rattle.refine.specs.declared.Refined.{Refined}
 use Rattle.refine.specs.declared.Refined.the-variants.{Accepted, Rejected}
-use Rattle.refine.specs.declared.lend.Settled.{Settled}
 
 -- a refusal leaves the spot as it was
 pub refused-leaves-spot : (set : Set) (ratio : Float) (k : List (List Float)) (spot : Spot) → lentOf set ratio k spot .ok ≡ false → lentOf set ratio k spot .spot ≡ spot
@@ -28,11 +27,3 @@ accepted-left set ratio k spot = go (refineOf set ratio k spot)
     go : (r : Refined) → leftOf spot r .ok ≡ true → r ≡ Accepted (leftOf spot r .spot)
     go (Accepted found) h = refl
     go Rejected h = cc
-
--- two answers that a contract allows are equal
-pub settled-only : (set : Set) (ratio : Float) (k : List (List Float)) (spot : Spot) (a b : Settled) → a ≡ lentOf set ratio k spot → b ≡ lentOf set ratio k spot → a ≡ b
-settled-only set ratio k spot a b p q = p ∙ sym q
-
-pub in-place-only : (set : Set) (ratio : Float) (k : List (List Float)) (spot : Spot) (a b : Bool) (s t : Spot) →
-    (a ≡ lentOf set ratio k spot .ok) × (s ≡ lentOf set ratio k spot .spot) → (b ≡ lentOf set ratio k spot .ok) × (t ≡ lentOf set ratio k spot .spot) → (a ≡ b) × (s ≡ t)
-in-place-only set ratio k spot a b s t p q = (p .0 ∙ sym (q .0), p .1 ∙ sym (q .1))

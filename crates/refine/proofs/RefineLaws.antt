@@ -1,6 +1,6 @@
 -- What the refinement keeps, what it changes, and when it rejects, whichever zeros min, max and the sums take.
 use Prim.Native.Nat.{ℕ, zero, suc, _<_}
-use mathlib.Core.Path.{_≡_, refl, sym, _∙_}
+use mathlib.Core.Path.{_≡_, refl}
 use mathlib.Core.Bool.{Bool, true, false, false≢true, cond, _&&_}
 use mathlib.Core.List.{List}
 use mathlib.Core.Logic.{_⊎_, inl, inr}
@@ -13,7 +13,7 @@ use Rattle.float.proofs.Bools.{both, all-eight, passed}
 use Rattle.tables.specs.declared.Set.{Set}
 use Rattle.fit.specs.Cubic.{_at_}
 use Rattle.fit.specs.Prims.{Prims}
-use Rattle.refine.specs.Refine.{valuesOf, edgeOf, indexOf, spatialBy, spatialOf, denominatorOf, steepOf, deltaYOf, deltaXOf, nearby, placedOf, movedOf, refineBy, refineOf}
+use Rattle.refine.specs.Refine.{valuesOf, edgeOf, indexOf, spatialBy, denominatorOf, steepOf, deltaYOf, deltaXOf, nearby, placedOf, movedOf, refineBy}
 use Rattle.refine.specs.declared.Spot.{Spot}
 use Rattle.refine.specs.declared.Refined.{Refined}
 use Rattle.refine.specs.declared.Refined.the-variants.{Accepted, Rejected}
@@ -123,14 +123,3 @@ unfinite-rejects p set most k spot i h lost = go (refineBy p set most k spot) (a
     go : (r : Refined) → ((found : Spot) → r ≡ Accepted found → (i : ℕ) → i < 9 → finite (valuesOf k (spot .sigma) at i) ≡ true) → r ≡ Rejected
     go (Accepted found) f = let held = f found refl i h in cc
     go Rejected f = refl
-
--- ---- two answers that a contract allows are equal
-
-pub index-only : (g : List Float) (sigma : Float) (a b : ℕ) → a ≡ indexOf g sigma → b ≡ indexOf g sigma → a ≡ b
-index-only g sigma a b p q = p ∙ sym q
-
-pub spatial-only : (set : Set) (index : ℕ) (v a b : List Float) → a ≡ spatialOf set index v → b ≡ spatialOf set index v → a ≡ b
-spatial-only set index v a b p q = p ∙ sym q
-
-pub refined-only : (set : Set) (most : Float) (k : List (List Float)) (spot : Spot) (a b : Refined) → a ≡ refineOf set most k spot → b ≡ refineOf set most k spot → a ≡ b
-refined-only set most k spot a b p q = p ∙ sym q

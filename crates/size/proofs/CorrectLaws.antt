@@ -1,4 +1,4 @@
--- What the correction answers and refuses, where a corrected sigma lies, and that the promise allows one answer. Assumes nothing.
+-- What the correction answers and refuses, and where a corrected sigma lies. Assumes nothing.
 use mathlib.Core.Path.{_≡_, refl, sym, _∙_}
 use mathlib.Core.List.{List}
 use mathlib.Core.Bool.{Bool, true, false, cond, _&&_}
@@ -20,13 +20,7 @@ use Rattle.size.specs.Claims.{InWindow}
 use Rattle.size.specs.declared.Geometry.{Geometry}
 use Rattle.size.specs.declared.Corrected.{Corrected}
 use Rattle.size.specs.declared.Corrected.the-variants.{Sigma, NoSize}
-use Rattle.size.specs.declared.Correction.{Correction}
 use Rattle.size.specs.declared.Correction.the-variants.{Size, Refused}
-
--- ---- the promise allows one answer
-
-pub only-correction : (s : Set) (l : List Float) (sigma : Float) (isMax : Bool) {r t : Correction} → r ≡ correctOf s l sigma isMax → t ≡ correctOf s l sigma isMax → r ≡ t
-only-correction s l sigma isMax p q = p ∙ sym q
 
 -- ---- answers that differ
 

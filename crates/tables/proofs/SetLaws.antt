@@ -123,14 +123,6 @@ pub refusal-is-four : (b : List ℕ) (w : Refusal) → readSetOf b .answer ≡ B
 unfolding number refusedSet
 refusal-is-four b w e = let z : Bad BadSet ≡ Bad w = sym (ap (λ (r : SetRead). r .answer) (bad-record-refused b (refused-only-bad b w e))) ∙ e in cc
 
--- ---- each promise allows one answer
-
-pub is-good-one : (s : Set) (r t : Bool) → r ≡ good s → t ≡ good s → r ≡ t
-is-good-one s r t p q = p ∙ sym q
-
-pub read-set-one : (b : List ℕ) (r t : SetRead) → r ≡ readSetOf b → t ≡ readSetOf b → r ≡ t
-read-set-one b r t p q = p ∙ sym q
-
 -- ---- set T
 
 pub set-t-good : good setT ≡ true
