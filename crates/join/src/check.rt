@@ -1,4 +1,4 @@
-// The join's refusals, in their order.
+// The join's checks, in its order.
 ghost use mathlib.Core.Path.{_≡_};
 ghost use Prim.Native.Nat.{_/_, _≤_};
 ghost use lib.ListN.{length};
@@ -28,7 +28,7 @@ fn first_bad(rows: usize, cols: usize, list: &[u8]) -> usize
     i
 }
 
-// Of the checks, in their order (1, 4, 5 for the length, 5 for a record, 6), the first that holds.
+// Of the join's checks, in its order (1, 4, 5 for the length, 5 for a record, 6), the first that holds is answered.
 pub fn checked(set: Set, rows: usize, cols: usize, list: &[u8], room: usize) -> Checked
     ensures { λ r. ⌜ r ≡ firstOf (joinChecks set rows cols (now (list .entry)) room) ⌝ }
 {

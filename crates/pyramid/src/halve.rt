@@ -17,7 +17,7 @@ pub fn half(side: usize, other: usize) -> usize
     side / 2
 }
 
-// Of the checks, in their order (1, 2, 6), the first that holds.
+// Of the checks of downsample, in its order (1, 2, 6), the first that holds is answered.
 pub fn checked(n: usize, room: usize, rows: usize, cols: usize) -> Checked
     ensures { λ r. ⌜ r ≡ firstOf (downsampleChecks n room rows cols) ⌝ }
 {
