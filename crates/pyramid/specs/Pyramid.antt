@@ -64,7 +64,8 @@ pub record Stored (out out' : List Float) (at : ℕ) (fs : List Float) : Type 0 
 
 -- ---- refusals
 
--- the checks in their order, for a level of n floats and a buffer of room floats. 1: a side is too long; 2: the level is not rows*cols long; 6: the buffer is shorter than needed
+-- the checks of downsample in its order, for a level of n floats and a buffer of room floats. 1: a side is too long; 2: the level is not rows*cols long;
+-- 6: the buffer is shorter than needed
 unfoldable pub downsampleChecks : ℕ → ℕ → ℕ → ℕ → List Check
 downsampleChecks n room rows cols = sidesCheck rows cols ∷ (Level when not (eqb n (rows * cols))) ∷ (Room when ltb room (needed rows cols)) ∷ []
 
