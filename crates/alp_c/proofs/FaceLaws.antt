@@ -1,7 +1,7 @@
 -- What the C face's promises settle: one answer for each call, and when a set's record is refused.
-use Prim.Native.Nat.{ℕ}
+use Prim.Native.Nat.{ℕ, zero, suc, _<_}
 use native.Mathlib.Omega.{arith}
-use mathlib.Core.Bool.{Bool, true, false, not, _&&_, false≢true}
+use mathlib.Core.Bool.{Bool, true, false, not, _&&_}
 use mathlib.Core.List.{List}
 use mathlib.Core.Path.{_≡_, refl, sym, ap, _∙_}
 use borrow.Author.Tests.{not-true}
@@ -14,15 +14,15 @@ use Rattle.tables.specs.declared.Set.{Set}
 use Rattle.tables.specs.declared.SetRead.{SetRead}
 use Rattle.tables.specs.declared.Thresholds.{Thresholds}
 use Rattle.tables.specs.declared.Refusal.{Refusal}
-use Rattle.tables.specs.declared.Refusal.the-variants.{Size, Level, Octave, BadSet, Records, Room, NoSize}
+use Rattle.tables.specs.declared.Refusal.the-variants.{Size, Level, Octave, BadSet}
+use Rattle.tables.specs.declared.Checked.the-variants.{Fine, Bad}
 use Rattle.tables.specs.Set.{every, allSet, rising, good, blank, setOf, spareZero, goodRecord}
-use Rattle.tables.specs.Refusal.{number, refusedSet, readSetOf}
+use Rattle.tables.specs.Refusal.{number, Check, unless, saidAt, refusedSet, readSetOf}
 use Rattle.tables.proofs.SetLaws.{good-record-read, bad-record-refused}
-use Rattle.alp.specs.Detect.{Outcome, outcome, detectOf}
-use Rattle.alp.specs.Refusals.{applies}
+use Rattle.alp.specs.Detect.{detectChecks, Outcome, outcome, detectOf}
 use Rattle.alp.specs.declared.Answer.{Answer}
 use Rattle.alp.specs.declared.Answer.the-variants.{Found, Refused}
-use Rattle.alp.proofs.RefusalsLaws.{refused-applies, refused-first, found-none}
+use Rattle.alp.proofs.RefusalsLaws.{refused-first, first-refused}
 use Rattle.join.specs.Join as join
 use Rattle.join.specs.declared.Joined.{Joined}
 use Rattle.pyramid.specs.Pyramid as pyramid
@@ -72,21 +72,15 @@ bad-record-four b e = rw (bad-record-refused b e)
 
 -- ---- detection
 
-number-told : (w : Refusal) → number w ≡ 4 → w ≡ BadSet
-unfolding number
-number-told Size h = let z : ⊥ = omega arith in absurd z
-number-told Level h = let z : ⊥ = omega arith in absurd z
-number-told Octave h = let z : ⊥ = omega arith in absurd z
-number-told BadSet h = refl
-number-told (Records i) h = let z : ⊥ = omega arith in absurd z
-number-told Room h = let z : ⊥ = omega arith in absurd z
-number-told NoSize h = let z : ⊥ = omega arith in absurd z
+-- what a check by itself refuses with, and that it does
+said-bad : (test : Bool) (r w : Refusal) → unless test r Fine ≡ Bad w → (test ≡ true) × (r ≡ w)
+unfolding unless
+said-bad true r w e = (refl, cc)
+said-bad false r w e = (cc, cc)
 
--- a call to which 4 applies, and none before it
+-- a call whose record is bad, and that no check before the set's refuses: those at the places 0, 1 and 2 of detection's
 pub record OnlySet (b : List ℕ) (rows cols octave : ℕ) (l0 l1 l2 l3 : List Float) : Type 0 where
-  pub sides : applies Size (readSetOf b .set) rows cols octave l0 l1 l2 l3 ≡ false
-  pub levels : applies Level (readSetOf b .set) rows cols octave l0 l1 l2 l3 ≡ false
-  pub octaves : applies Octave (readSetOf b .set) rows cols octave l0 l1 l2 l3 ≡ false
+  pub earlier : (k : ℕ) → k < 3 → saidAt (detectChecks (length l0) (length l1) (length l2) (length l3) rows cols octave (readSetOf b .set)) k ≡ Fine
   pub record-bad : goodRecord b ≡ false
 
 module _ (b : List ℕ) (th : Thresholds) (rows cols octave : ℕ) (l0 l1 l2 l3 : List Float) (out : List ℕ) where
@@ -99,18 +93,31 @@ module _ (b : List ℕ) (th : Thresholds) (rows cols octave : ℕ) (l0 l1 l2 l3 
   abbrev answer : Answer
   answer = detectOf s th rows cols octave l0 l1 l2 l3 out .answer
 
-  abbrev wrong : Refusal → Bool
-  wrong r = applies r s rows cols octave l0 l1 l2 l3
+  -- the checks of this call
+  abbrev checks : List Check
+  checks = detectChecks (length l0) (length l1) (length l2) (length l3) rows cols octave s
 
-  set-wrong : goodRecord b ≡ false → wrong BadSet ≡ true
-  unfolding applies
-  set-wrong e = rw (read-good b, e)
+  -- two answers that the promise allows are equal, with their values and buffers
+  pub detect-face-only : (x y : Left) → x ≡ after → y ≡ after → x ≡ y
+  detect-face-only x y p q = p ∙ sym q
 
-  wrong-set : wrong BadSet ≡ true → goodRecord b ≡ false
-  unfolding applies
-  wrong-set e = sym (read-good b) ∙ not-true (good s) e
+  set-said : goodRecord b ≡ false → saidAt checks 3 ≡ Bad BadSet
+  unfolding saidAt detectChecks unless
+  set-said e = rw (read-good b, e)
 
-  -- 4 is answered only where the record is bad and nothing before it applies
+  -- a refusal with the number 4 by the check at some place is the set's
+  four-at : (place : ℕ) (w : Refusal) → number w ≡ 4 → saidAt checks place ≡ Bad w → ((k : ℕ) → k < place → saidAt checks k ≡ Fine) → OnlySet b rows cols octave l0 l1 l2 l3
+  unfolding saidAt detectChecks number
+  four-at zero w four said before = let is = said-bad _ Size w said .1 in let z : ⊥ = omega (arith, ap number is, four) in absurd z
+  four-at (suc zero) w four said before = let is = said-bad _ Level w said .1 in let z : ⊥ = omega (arith, ap number is, four) in absurd z
+  four-at (suc (suc zero)) w four said before = let is = said-bad _ Octave w said .1 in let z : ⊥ = omega (arith, ap number is, four) in absurd z
+  four-at (suc (suc (suc zero))) w four said before = record {
+    earlier = before;
+    record-bad = sym (read-good b) ∙ not-true (good s) (said-bad (not (good s)) BadSet w said .0);
+  }
+  four-at (suc (suc (suc (suc k)))) w four said before = let never : _≡_ {A = ℕ} 0 1 = cc in let z : ⊥ = omega (arith, never) in absurd z
+
+  -- 4 is answered only where the record is bad and no check before the set's holds
   pub four-only-set : after .number ≡ 4 → OnlySet b rows cols octave l0 l1 l2 l3
   unfolding detectFace packed number
   four-only-set four = go answer refl four
@@ -118,29 +125,10 @@ module _ (b : List ℕ) (th : Thresholds) (rows cols octave : ℕ) (l0 l1 l2 l3 
       go : (a : Answer) → answer ≡ a → packed a .number ≡ 4 → OnlySet b rows cols octave l0 l1 l2 l3
       go (Found n) e h = let z : ⊥ = omega arith in absurd z
       go (Refused w) e h =
-          let is : answer ≡ Refused BadSet = e ∙ ap Refused (number-told w h) in
-          let first = refused-first s th rows cols octave l0 l1 l2 l3 out BadSet is in
-          record {
-            sides = first Size (omega arith);
-            levels = first Level (omega arith);
-            octaves = first Octave (omega arith);
-            record-bad = wrong-set (refused-applies s th rows cols octave l0 l1 l2 l3 out BadSet is);
-          }
+          let first = refused-first s th rows cols octave l0 l1 l2 l3 out w e in
+          four-at (first .place) w h (first .holds) (first .earlier)
 
   -- and it is answered wherever that is so
   pub only-set-four : OnlySet b rows cols octave l0 l1 l2 l3 → after .number ≡ 4
-  unfolding detectFace packed number applies
-  only-set-four p = go answer refl
-    where
-      told : (w : Refusal) → wrong w ≡ true → number w ≡ 4
-      told Size h = absurd (false≢true (sym (p .sides) ∙ h))
-      told Level h = absurd (false≢true (sym (p .levels) ∙ h))
-      told Octave h = absurd (false≢true (sym (p .octaves) ∙ h))
-      told BadSet h = refl
-      told (Records i) h = absurd (false≢true h)
-      told Room h = absurd (false≢true h)
-      told NoSize h = absurd (false≢true h)
-
-      go : (a : Answer) → answer ≡ a → packed a .number ≡ 4
-      go (Found n) e = absurd (false≢true (sym (found-none s th rows cols octave l0 l1 l2 l3 out n e BadSet) ∙ set-wrong (p .record-bad)))
-      go (Refused w) e = told w (refused-applies s th rows cols octave l0 l1 l2 l3 out w e)
+  unfolding detectFace packed number
+  only-set-four p = rw (first-refused s th rows cols octave l0 l1 l2 l3 out BadSet (record { place = 3; holds = set-said (p .record-bad); earlier = p .earlier }))

@@ -6,7 +6,7 @@ use lib.Ieee.{Float}
 use Rattle.tables.specs.declared.Thresholds.{Thresholds}
 use Rattle.tables.specs.declared.Checked.{Checked}
 use Rattle.tables.specs.declared.Checked.the-variants.{Fine, Bad}
-use Rattle.tables.specs.Refusal.{number, index, readSetOf}
+use Rattle.tables.specs.Refusal.{number, value, readSetOf}
 use Rattle.size.specs.Correct.{correctOf}
 use Rattle.size.specs.declared.Correction.{Correction}
 use Rattle.size.specs.declared.Correction.the-variants as size
@@ -25,10 +25,10 @@ pub record Packed : Type 0 where
   pub number : ℕ
   pub value : ℕ
 
--- 0 and the count, or the refusal's number and the index that goes with it
+-- 0 and the count, or the refusal's number and the value that goes with it
 unfoldable pub packed : Answer → Packed
 packed (Found n) = record { number = 0; value = n }
-packed (Refused w) = record { number = number w; value = index w }
+packed (Refused w) = record { number = number w; value = value w }
 
 -- what a call leaves: its number, its value, and the whole buffer
 pub record Left : Type 0 where
@@ -86,10 +86,10 @@ correctFace set samples sigma isMax before =
 
 -- ---- the join
 
--- 0 and the count, or the refusal's number and the index that goes with it
+-- 0 and the count, or the refusal's number and the value that goes with it
 unfoldable pub joinPacked : Joined → Packed
 joinPacked (joined.Count n) = record { number = 0; value = n }
-joinPacked (joined.Refused w) = record { number = number w; value = index w }
+joinPacked (joined.Refused w) = record { number = number w; value = value w }
 
 -- what an outcome of the join leaves
 abbrev pub joinLeft : join.Outcome → Left

@@ -24,18 +24,18 @@ fn number_of(answer: Answer) -> u32
     }
 }
 
-// Its value: the count, or the index that goes with the refusal.
+// Its value: the count, or the value that goes with the refusal.
 fn value_of(answer: Answer) -> u64
     ensures { λ r. ⌜ r ≡ packed answer .value ⌝ }
 {
     match answer {
         Answer::Found(n) => n as u64,
-        Answer::Refused(why) => tables::refusals::index_of(why),
+        Answer::Refused(why) => tables::refusals::value_of(why),
     }
 }
 
 // Lists the spots of four levels in the buffer out, under the set in the record set. Answers 0, with the count in value, or the refusal's number, with
-// its index in value.
+// the value that goes with it in value.
 #[no_mangle]
 pub extern "C" fn uramsheg_detect<'a>(
     set: &'a [u8],

@@ -13,18 +13,18 @@ fn number_of(answer: Joined) -> u32
     }
 }
 
-// Its value: the count, or the index that goes with the refusal.
+// Its value: the count, or the value that goes with the refusal.
 fn value_of(answer: Joined) -> u64
     ensures { λ r. ⌜ r ≡ joinPacked answer .value ⌝ }
 {
     match answer {
         Joined::Count(n) => n as u64,
-        Joined::Refused(why) => tables::refusals::index_of(why),
+        Joined::Refused(why) => tables::refusals::value_of(why),
     }
 }
 
 // Sizes the records of a list found on a map of rows by cols, in the buffer out, under the set in the record set. Answers 0, with the count in value,
-// or the refusal's number, with its index in value.
+// or the refusal's number, with the value that goes with it in value.
 #[no_mangle]
 pub extern "C" fn uramsheg_join<'a>(
     set: &'a [u8],

@@ -6,14 +6,16 @@ use mathlib.Core.Path.{_≡_, ap, _∙_}
 use mathlib.Core.List.{List, _++_}
 use lib.ListN.{length, take, drop, length-append, length-drop}
 use lib.Seq.{length-take-le, take-at}
-use lib.Dec.{eqb}
+use lib.Dec.{ltb, eqb}
 use lib.Ieee.{Float}
 use borrow.Author.Tests.{ltb-false, eqb-true, not-false}
+use Rattle.float.proofs.Bools.{neither}
 use Rattle.words.specs.Words.{floatsAt}
 use Rattle.words.proofs.WordsLaws.{length-floatsAt}
 use Rattle.tables.specs.declared.Set.{Set}
 use Rattle.tables.specs.declared.Thresholds.{Thresholds}
 use Rattle.tables.specs.declared.Checked.the-variants.{Fine}
+use Rattle.tables.specs.Refusal.{firstOf}
 use Rattle.tables.proofs.RefusalLaws.{unless-fine}
 use Rattle.alp.specs.Detect.{detectOf}
 use Rattle.lister.specs.Input.{setFrom, thresholdsFrom, rowsFrom, colsFrom, octaveFrom, areaFrom, levelFrom, listChecks, detectFrom}
@@ -28,15 +30,15 @@ pub record Tile (b : List ℕ) : Type 0 where
 pub area-sixty : {m n : ℕ} → m ≤ 60 → n ≤ 60 → m * n ≤ 3600
 area-sixty p q = mul-le-mul p q
 
-pub checks-tile : (b : List ℕ) → listChecks b ≡ Fine → Tile b
-unfolding listChecks
+pub checks-tile : (b : List ℕ) → firstOf (listChecks b) ≡ Fine → Tile b
+unfolding listChecks firstOf
 checks-tile b h =
     let header = unless-fine _ _ _ h in
-    let rows = unless-fine _ _ _ (header .1) in
-    let cols = unless-fine _ _ _ (rows .1) in
-    let whole = unless-fine _ _ _ (cols .1) in
-    let r : rowsFrom b ≤ 60 = ltb-false _ _ (rows .0) in
-    let c : colsFrom b ≤ 60 = ltb-false _ _ (cols .0) in
+    let sides = unless-fine _ _ _ (header .1) in
+    let whole = unless-fine _ _ _ (sides .1) in
+    let side = neither (ltb 60 (rowsFrom b)) (ltb 60 (colsFrom b)) (sides .0) in
+    let r : rowsFrom b ≤ 60 = ltb-false _ _ (side .0) in
+    let c : colsFrom b ≤ 60 = ltb-false _ _ (side .1) in
     record {
       rows-most = r;
       cols-most = c;

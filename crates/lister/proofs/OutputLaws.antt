@@ -2,20 +2,24 @@
 use Prim.Native.Nat.{ℕ, _+_, _*_, _/_, _≤_, _<_, min}
 use native.Mathlib.Nat.{zero-add}
 use native.Mathlib.Omega.{arith}
-use mathlib.Core.Path.{_≡_, sym, ap, _∙_}
-use mathlib.Core.List.{List, [], _++_}
+use mathlib.Core.Bool.{Bool, true, false}
+use mathlib.Core.Path.{_≡_, refl, sym, ap, _∙_}
+use mathlib.Core.List.{List, [], _∷_, _++_}
 use lib.ListN.{length, take, drop, length-take, take-append-drop}
 use borrow.Author.Tests.{lt-ltb, le-ltb, ne-eqb}
 use Rattle.io.specs.Counts.{Counts}
 use Rattle.tables.specs.declared.Refusal.{Refusal}
-use Rattle.tables.specs.declared.Checked.the-variants.{Fine}
-use Rattle.tables.specs.Refusal.{number, unless}
+use Rattle.tables.specs.declared.Checked.{Checked}
+use Rattle.tables.specs.declared.Checked.the-variants.{Fine, Bad}
+use Rattle.tables.specs.Refusal.{Check, number, unless, firstOf, saidAt, First}
+use Rattle.tables.proofs.RefusalLaws as laws
 use Rattle.record.specs.declared.Record.{Record}
 use Rattle.record.specs.Layout.{bytesOf, written}
 use Rattle.alp.specs.Due.{due}
-use Rattle.alp.specs.Detect.{Outcome, outcome}
+use Rattle.alp.specs.Detect.{detectChecks, Outcome, outcome}
 use Rattle.alp.specs.declared.Answer.{Answer}
 use Rattle.alp.specs.declared.Answer.the-variants.{Found, Refused}
+use Rattle.alp.proofs.RefusalsLaws.{first-refused as detect-refuses, none-found as detect-finds}
 use Rattle.alp.proofs.Promise.{answer-same, first-written}
 use Rattle.lister.specs.Input.{setFrom, thresholdsFrom, rowsFrom, colsFrom, octaveFrom, areaFrom, levelFrom, listChecks, detectFrom, mapsFrom}
 use Rattle.lister.specs.Text.{linesOf, linesIn, foundLine, refusedLine, Wrote}
@@ -67,34 +71,88 @@ module _ (b out o : List ℕ) where
   unfolding tileOutput printed
   tile-refused e = sym (ap (λ (a : Answer). printed a found) (answer-told e))
 
--- ---- refusals, in their order
+-- ---- refusals, case by case
 
 module _ (b : List ℕ) where
   -- a header cut short is 2 at once
   pub short-header : length b < 560 → listOutput b ≡ refusedLine 2
-  unfolding listOutput listChecks unless checkedOutput number
+  unfolding listOutput listChecks firstOf unless checkedOutput number
   short-header h = rw (lt-ltb (length b) 560 h)
 
   -- then 1 for a side above 60, whatever the input's length
   pub large-rows : 560 ≤ length b → 60 < rowsFrom b → listOutput b ≡ refusedLine 1
-  unfolding listOutput listChecks unless checkedOutput number
+  unfolding listOutput listChecks firstOf unless checkedOutput number
   large-rows h r = rw (le-ltb (length b) 560 h, lt-ltb 60 (rowsFrom b) r)
 
   pub large-cols : 560 ≤ length b → rowsFrom b ≤ 60 → 60 < colsFrom b → listOutput b ≡ refusedLine 1
-  unfolding listOutput listChecks unless checkedOutput number
+  unfolding listOutput listChecks firstOf unless checkedOutput number
   large-cols h r c = rw (le-ltb (length b) 560 h, le-ltb 60 (rowsFrom b) r, lt-ltb 60 (colsFrom b) c)
 
   -- then 2 for any wrong input length
   pub wrong-length : 560 ≤ length b → rowsFrom b ≤ 60 → colsFrom b ≤ 60 → (length b ≡ 560 + 16 * areaFrom b → ⊥) → listOutput b ≡ refusedLine 2
-  unfolding listOutput listChecks unless checkedOutput number
+  unfolding listOutput listChecks firstOf unless checkedOutput number
   wrong-length h r c l = rw (le-ltb (length b) 560 h, le-ltb 60 (rowsFrom b) r, le-ltb 60 (colsFrom b) c, ne-eqb (length b) (560 + 16 * areaFrom b) l)
 
   -- then detection's own
-  pub detection-refuses : (w : Refusal) → listChecks b ≡ Fine → detectFrom b [] .answer ≡ Refused w → listOutput b ≡ refusedLine (number w)
+  pub detection-refuses : (w : Refusal) → firstOf (listChecks b) ≡ Fine → detectFrom b [] .answer ≡ Refused w → listOutput b ≡ refusedLine (number w)
   unfolding listOutput checkedOutput tileOutput printed
   detection-refuses w h e = rw (h, e)
 
   -- otherwise the first 1,600 records, and the full count
-  pub list-found : (n : ℕ) → listChecks b ≡ Fine → detectFrom b [] .answer ≡ Found n → listOutput b ≡ linesOf (take 1600 (due (mapsFrom b))) ++ foundLine n
+  pub list-found : (n : ℕ) → firstOf (listChecks b) ≡ Fine → detectFrom b [] .answer ≡ Found n → listOutput b ≡ linesOf (take 1600 (due (mapsFrom b))) ++ foundLine n
   unfolding listOutput checkedOutput tileOutput printed
   list-found n h e = rw (h, e)
+
+-- ---- refusals: the first check that holds, the input's own before detection's
+
+-- what checks in front of others say: their first refusal, and where they are fine, the others'
+unfoldable followed : Checked → Checked → Checked
+followed (Bad r) next = Bad r
+followed Fine next = next
+
+front-first : (cs ds : List Check) → firstOf (cs ++ ds) ≡ followed (firstOf cs) (firstOf ds)
+unfolding firstOf followed unless
+front-first [] ds = refl
+front-first (c ∷ cs) ds = go (c .holds) (front-first cs ds)
+  where
+    go : (t : Bool) → firstOf (cs ++ ds) ≡ followed (firstOf cs) (firstOf ds) → unless t (c .refusal) (firstOf (cs ++ ds)) ≡ followed (unless t (c .refusal) (firstOf cs)) (firstOf ds)
+    go true further = refl
+    go false further = further
+
+module _ (b : List ℕ) where
+  -- detection's checks of what the input holds
+  abbrev tileChecks : List Check
+  tileChecks =
+      detectChecks (length (levelFrom b 0)) (length (levelFrom b 1)) (length (levelFrom b 2)) (length (levelFrom b 3)) (rowsFrom b) (colsFrom b) (octaveFrom b) (setFrom b)
+
+  -- all checks of the list program, in their order
+  abbrev allChecks : List Check
+  allChecks = listChecks b ++ tileChecks
+
+  -- the first check that holds is the one whose number is printed
+  pub first-printed : (r : Refusal) → First allChecks r → listOutput b ≡ refusedLine (number r)
+  unfolding listOutput checkedOutput followed detectFrom
+  first-printed r f = go (firstOf (listChecks b)) refl (sym (front-first (listChecks b) tileChecks) ∙ laws.refused-first allChecks r f)
+    where
+      go : (w : Checked) → firstOf (listChecks b) ≡ w → followed w (firstOf tileChecks) ≡ Bad r → listOutput b ≡ refusedLine (number r)
+      go (Bad q) is e = let same : q ≡ r = cc in rw (is, same)
+      go Fine is e =
+          detection-refuses b r is
+          (detect-refuses (setFrom b) (thresholdsFrom b) (rowsFrom b) (colsFrom b) (octaveFrom b) (levelFrom b 0) (levelFrom b 1) (levelFrom b 2) (levelFrom b 3) [] r (laws.first-refused tileChecks r e))
+
+  -- and where no check holds, the list is printed, and its full count
+  pub none-printed : ((k : ℕ) → saidAt allChecks k ≡ Fine) → listOutput b ≡ linesOf (take 1600 (due (mapsFrom b))) ++ foundLine (length (due (mapsFrom b)))
+  unfolding followed detectFrom
+  none-printed h = go (firstOf (listChecks b)) refl (sym (front-first (listChecks b) tileChecks) ∙ laws.fine-first allChecks h)
+    where
+      go : (w : Checked) → firstOf (listChecks b) ≡ w → followed w (firstOf tileChecks) ≡ Fine → listOutput b ≡ linesOf (take 1600 (due (mapsFrom b))) ++ foundLine (length (due (mapsFrom b)))
+      go (Bad q) is e = cc
+      go Fine is e =
+          list-found b _ is
+          (detect-finds (setFrom b) (thresholdsFrom b) (rowsFrom b) (colsFrom b) (octaveFrom b) (levelFrom b 0) (levelFrom b 1) (levelFrom b 2) (levelFrom b 3) [] (laws.first-fine tileChecks e))
+
+-- ---- what the promise settles
+
+-- two outputs that the promise allows are equal
+pub list-only : (b out out' : List ℕ) (r r' : ℕ) → Begins out r (listOutput b) → Begins out' r' (listOutput b) → (r ≡ r') × (take r out ≡ take r' out')
+list-only b out out' r r' p q = (p .count ∙ sym (q .count), p .bytes ∙ sym (q .bytes))

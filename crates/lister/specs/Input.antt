@@ -1,16 +1,14 @@
 -- The input's layout, and its checks. Definitions only.
 use Prim.Native.Nat.{ℕ, _+_, _*_}
-use mathlib.Core.Bool.{not}
-use mathlib.Core.List.{List}
+use mathlib.Core.Bool.{not, _||_}
+use mathlib.Core.List.{List, [], _∷_}
 use lib.ListN.{length, take}
 use lib.Dec.{ltb, eqb}
 use lib.Ieee.{Float}
 use Rattle.tables.specs.declared.Set.{Set}
 use Rattle.tables.specs.declared.Thresholds.{Thresholds}
 use Rattle.tables.specs.declared.Refusal.the-variants.{Size, Level}
-use Rattle.tables.specs.declared.Checked.{Checked}
-use Rattle.tables.specs.declared.Checked.the-variants.{Fine}
-use Rattle.tables.specs.Refusal.{unless, readSetOf}
+use Rattle.tables.specs.Refusal.{Check, _when_, readSetOf}
 use Rattle.words.specs.Words.{wordFrom, floatFrom, floatsAt}
 use Rattle.alp.specs.Level.{Maps, mapsOf}
 use Rattle.alp.specs.Detect.{Outcome, detectOf}
@@ -43,13 +41,13 @@ areaFrom b = rowsFrom b * colsFrom b
 abbrev pub levelFrom : List ℕ → ℕ → List Float
 levelFrom b k = floatsAt (areaFrom b) b (140 + k * areaFrom b)
 
--- 2 at once for a header cut short, 1 for a side above 60, then 2 for any wrong input length
-unfoldable pub listChecks : List ℕ → Checked
+-- the input's own checks, in their order, which stand in front of detection's: 2 for a header cut short, 1 for a side above 60, 2 for any other wrong length
+unfoldable pub listChecks : List ℕ → List Check
 listChecks b =
-    unless (ltb (length b) 560) Level
-    (unless (ltb 60 (rowsFrom b)) Size
-    (unless (ltb 60 (colsFrom b)) Size
-    (unless (not (eqb (length b) (560 + 16 * areaFrom b))) Level Fine)))
+    (Level when ltb (length b) 560)
+    ∷ (Size when (ltb 60 (rowsFrom b) || ltb 60 (colsFrom b)))
+    ∷ (Level when not (eqb (length b) (560 + 16 * areaFrom b)))
+    ∷ []
 
 -- detection of what the input holds, with its list in the buffer out
 unfoldable pub detectFrom : List ℕ → List ℕ → Outcome

@@ -5,7 +5,7 @@ use mathlib.Core.List.{List, [], _++_}
 use lib.ListN.{length, take}
 use Rattle.tables.specs.declared.Checked.{Checked}
 use Rattle.tables.specs.declared.Checked.the-variants.{Fine, Bad}
-use Rattle.tables.specs.Refusal.{number}
+use Rattle.tables.specs.Refusal.{number, firstOf}
 use Rattle.record.specs.declared.Record.{Record}
 use Rattle.alp.specs.Due.{due}
 use Rattle.alp.specs.declared.Answer.{Answer}
@@ -29,7 +29,7 @@ checkedOutput Fine b = tileOutput b
 
 -- the whole output
 unfoldable pub listOutput : List ℕ → List ℕ
-listOutput b = checkedOutput (listChecks b) b
+listOutput b = checkedOutput (firstOf (listChecks b)) b
 
 -- the buffer's first r bytes are the text, and r is its length
 pub record Begins (out : List ℕ) (r : ℕ) (text : List ℕ) : Type 0 where

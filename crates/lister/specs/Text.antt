@@ -63,9 +63,9 @@ refusedWord = 114 ∷ 101 ∷ 102 ∷ 117 ∷ 115 ∷ 101 ∷ 100 ∷ 32 ∷ []
 unfoldable pub foundLine : ℕ → List ℕ
 foundLine n = foundWord ++ (decimal n ++ (10 ∷ []))
 
--- `refused K`, for a number of one digit
+-- `refused K`
 unfoldable pub refusedLine : ℕ → List ℕ
-refusedLine k = refusedWord ++ ((48 + k) ∷ 10 ∷ [])
+refusedLine k = refusedWord ++ (decimal k ++ (10 ∷ []))
 
 -- ---- text written into a buffer
 

@@ -3,6 +3,7 @@ ghost use mathlib.Core.Path.{_≡_};
 ghost use Prim.Native.Nat.{_+_, _*_, _<_, _≤_};
 ghost use lib.ListN.{length, take};
 ghost use Rattle.tables.specs.declared.Checked.the-variants.{Fine};
+ghost use Rattle.tables.specs.Refusal.{firstOf};
 ghost use Rattle.alp.specs.Detect.{outcome};
 ghost use Rattle.words.specs.Words.{wordFrom};
 ghost use Rattle.lister.specs.Input.{setFrom, thresholdsFrom, areaFrom, levelFrom, listChecks, detectFrom};
@@ -29,9 +30,9 @@ fn whole_length(rows: usize, cols: usize) -> usize
     560 + 16 * (rows * cols)
 }
 
-// The first refusal of the input itself, in its order.
+// Of the input's own checks, in their order, the first that holds.
 pub fn checked(input: &[u8]) -> Checked
-    ensures { λ r. ⌜ r ≡ listChecks (now (input .entry)) ⌝ }
+    ensures { λ r. ⌜ r ≡ firstOf (listChecks (now (input .entry))) ⌝ }
 {
     if input.len() < 560 {
         return Checked::Bad(Refusal::Level);
@@ -75,7 +76,7 @@ fn thresholds_from(input: &[u8]) -> Thresholds
 
 // The pixels of a level.
 fn area_from(input: &[u8]) -> usize
-    requires { ⌜ listChecks (now input) ≡ Fine ⌝ }
+    requires { ⌜ firstOf (listChecks (now input)) ≡ Fine ⌝ }
     ensures { λ r. ⌜ (r ≡ areaFrom (now (input .entry))) × (r ≤ 3600) ⌝ }
 {
     let rows = count_from(input, 548);
@@ -85,7 +86,7 @@ fn area_from(input: &[u8]) -> usize
 
 // Level k, at an array's start.
 fn level_from(input: &[u8], k: usize) -> [f32; 3600]
-    requires { ⌜ listChecks (now input) ≡ Fine ⌝ }
+    requires { ⌜ firstOf (listChecks (now input)) ≡ Fine ⌝ }
     requires { ⌜ k < 4 ⌝ }
     ensures { λ r. ⌜ (take (areaFrom (now (input .entry))) r ≡ levelFrom (now (input .entry)) k) × (length r ≡ 3600) ⌝ }
 {
@@ -97,7 +98,7 @@ fn level_from(input: &[u8], k: usize) -> [f32; 3600]
 
 // Detects what the input holds, with its list in the buffer out.
 pub fn detect_from(input: &[u8], out: &mut [u8]) -> Answer
-    requires { ⌜ listChecks (now input) ≡ Fine ⌝ }
+    requires { ⌜ firstOf (listChecks (now input)) ≡ Fine ⌝ }
     ensures { λ r. ⌜ outcome r (now (out .exit)) ≡ detectFrom (now (input .entry)) (now (out .entry)) ⌝ }
 {
     let rows = count_from(input, 548);

@@ -6,6 +6,7 @@ ghost use mathlib.Core.Path.{_≡_};
 ghost use Prim.Native.Nat.{min};
 ghost use Rattle.io.specs.Counts.{Counts};
 ghost use Rattle.tables.specs.declared.Checked.the-variants.{Fine};
+ghost use Rattle.tables.specs.Refusal.{firstOf};
 ghost use Rattle.lister.specs.Input.{listChecks};
 ghost use Rattle.lister.specs.Output.{tileOutput, listOutput, Begins};
 use alp::Answer;
@@ -20,7 +21,7 @@ fn shown(count: usize) -> usize
 
 // What a tile of the right length prints.
 fn list_tile(input: &[u8], out: &mut [u8; 129640]) -> usize
-    requires { ⌜ listChecks (now input) ≡ Fine ⌝ }
+    requires { ⌜ firstOf (listChecks (now input)) ≡ Fine ⌝ }
     ensures { λ r. ⌜ Begins (now (out .exit)) r (tileOutput (now (input .entry))) ⌝ }
 {
     let mut records = [0u8; 64000];
@@ -31,7 +32,11 @@ fn list_tile(input: &[u8], out: &mut [u8; 129640]) -> usize
             let end = text::put_lines(out, 0, &records, printed);
             text::put_found(out, end, count)
         }
-        Answer::Refused(why) => text::put_refused(out, 0, tables::refusals::number_of(why) as u8),
+        Answer::Refused(why) => text::put_refused(
+            out,
+            0,
+            tables::refusals::number_of(why) as usize,
+        ),
     }
 }
 
@@ -42,7 +47,7 @@ pub fn list(input: &[u8], out: &mut [u8; 129640]) -> usize
 {
     let check = input::checked(input);
     match check {
-        Checked::Bad(why) => text::put_refused(out, 0, tables::refusals::number_of(why) as u8),
+        Checked::Bad(why) => text::put_refused(out, 0, tables::refusals::number_of(why) as usize),
         Checked::Fine => list_tile(input, out),
     }
 }

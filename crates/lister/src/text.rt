@@ -104,13 +104,12 @@ pub fn put_found(out: &mut [u8], at: usize, n: usize) -> usize
 }
 
 // The line `refused K`.
-pub fn put_refused(out: &mut [u8], at: usize, number: u8) -> usize
-    requires { ⌜ at + 10 ≤ length (now out) ⌝ }
-    requires { ⌜ number < 10 ⌝ }
+pub fn put_refused(out: &mut [u8], at: usize, number: usize) -> usize
+    requires { ⌜ at + 29 ≤ length (now out) ⌝ }
     ensures { λ r. ⌜ Wrote (now (out .entry)) (now (out .exit)) at r (refusedLine number) ⌝ }
 {
     let word = [114u8, 101, 102, 117, 115, 101, 100, 32];
-    let digit = put_text(out, at, &word);
-    let end = push(out, digit, 48 + number);
+    let digits = put_text(out, at, &word);
+    let end = put_decimal(out, digits, number);
     push(out, end, 10)
 }

@@ -19,7 +19,7 @@ returns c = rw (c .before .answer .given .1)
 
 returns-2 : tie.Need-returns-2
 unfolding packed
-returns-2 c = rw (c .before .before .answer2 .given .1) (c .number-of .ensures .0)
+returns-2 c = rw (c .before .before .answer2 .given .1) (c .number-of .ensures)
 
 pub number-of-spec : {M : Type 1} → statement M
 number-of-spec =

@@ -22,7 +22,7 @@ returns c = rw (← c .before .before .read-set .ensures, c .enum-told .given .1
 
 returns-2 : tie.Need-returns-2
 unfolding checkFace
-returns-2 c = rw (← c .before .before .before .before .read-set .ensures, c .before .before .answer .given .1) (c .number-of .ensures .0)
+returns-2 c = rw (← c .before .before .before .before .read-set .ensures, c .before .before .answer .given .1) (c .number-of .ensures)
 
 pub uramsheg-set-check-spec : {M : Type 1} → statement M
 uramsheg-set-check-spec =

@@ -32,7 +32,7 @@ returns : tie.Need-returns
 unfolding listOutput checkedOutput
 returns c =
     let b = wrote-begins (c .put-refused .ensures) in
-    (rw (← c .before .before .before .before .before .before .checked .ensures, c .before .before .before .before .check .given .1, ← c .before .number-of .ensures .0) b, begins-counts b)
+    (rw (← c .before .before .before .before .before .before .checked .ensures, c .before .before .before .before .check .given .1, ← c .before .number-of .ensures) b, begins-counts b)
 
 returns-2 : tie.Need-returns-2
 unfolding listOutput checkedOutput

@@ -50,7 +50,7 @@ returns c =
 returns-2 : tie.Need-returns-2
 returns-2 c =
     let e = rw (c .before .before .before .before .answer2 .given .1) at (c .before .before .before .before .before .before .before .detect-from .ensures) in
-    rw (← tile-refused _ _ _ e, ← c .before .number-of .ensures .0) (wrote-begins (c .put-refused .ensures))
+    rw (← tile-refused _ _ _ e, ← c .before .number-of .ensures) (wrote-begins (c .put-refused .ensures))
 
 pub list-tile-spec : {M : Type 1} → statement M
 list-tile-spec =

@@ -35,7 +35,7 @@ returns-2 c =
       ← c .before .before .before .before .before .before .read-set .ensures,
       ← c .before .before .before .before .correct .ensures,
       c .before .before .answer2 .given .1,
-      c .number-of .ensures .0,
+      c .number-of .ensures,
     )
 
 pub uramsheg-correct-spec : {M : Type 1} → statement M

@@ -35,7 +35,7 @@ unfolding downsampleFace halvedNumber rowsAfter colsAfter
 returns-2 c =
     let call = c .before .before .before .before .before .before .downsample in
     let is = c .before .before .answer2 .given .1 in
-    halved-left-by {a = call .result} _ _ (rw is (c .number-of .ensures .0)) (rw is) (rw is) (call .ensures)
+    halved-left-by {a = call .result} _ _ (rw is (c .number-of .ensures)) (rw is) (rw is) (call .ensures)
 
 pub uramsheg-downsample-spec : {M : Type 1} → statement M
 uramsheg-downsample-spec =

@@ -10,8 +10,8 @@ enum-known-answer c = search needs
 enum-known-answer-2 : tie.Need-enum-known-answer-2
 enum-known-answer-2 c = search needs
 
-index-of-requires : tie.Need-index-of-requires
-index-of-requires c κs = search needs
+value-of-requires : tie.Need-value-of-requires
+value-of-requires c κs = search needs
 
 returns : tie.Need-returns
 unfolding joinPacked
@@ -19,8 +19,8 @@ returns c = rw (c .before .answer .given .1)
 
 returns-2 : tie.Need-returns-2
 unfolding joinPacked
-returns-2 c = rw (c .before .before .answer2 .given .1) (c .index-of .ensures)
+returns-2 c = rw (c .before .before .answer2 .given .1) (c .value-of .ensures)
 
 pub value-of-spec : {M : Type 1} → statement M
 value-of-spec =
-    tie.close (tie.spec enum-known-answer enum-known-answer-2 index-of-requires returns returns-2)
+    tie.close (tie.spec enum-known-answer enum-known-answer-2 value-of-requires returns returns-2)

@@ -11,21 +11,18 @@ slice-aggregate-put-text c = search needs
 put-text-requires : tie.Need-put-text-requires
 put-text-requires c κs = search needs
 
-add-push : tie.Need-add-push
-add-push c = search needs
+put-decimal-requires : tie.Need-put-decimal-requires
+put-decimal-requires c κs = search needs
 
 push-requires : tie.Need-push-requires
 push-requires c κs = search needs
-
-push-requires-2 : tie.Need-push-requires-2
-push-requires-2 c κs = search needs
 
 same-length : tie.Need-same-length
 same-length c = search needs
 
 returns : tie.Need-returns
 unfolding refusedLine
-returns c = wrote-append (c .before .before .before .before .before .before .before .before .before .before .put-text .ensures) (wrote-append (c .before .before .before .before .before .before .push .ensures) (c .before .before .push2 .ensures))
+returns c = wrote-append (c .before .before .before .before .before .before .before .before .before .before .put-text .ensures) (wrote-append (c .before .before .before .before .before .before .put-decimal .ensures .0) (c .before .before .push .ensures))
 
 pub put-refused-spec : {M : Type 1} → statement M
 put-refused-spec =
@@ -33,8 +30,7 @@ put-refused-spec =
     (tie.spec
     slice-aggregate-put-text
     put-text-requires
-    add-push
+    put-decimal-requires
     push-requires
-    push-requires-2
     same-length
     returns)
