@@ -1,4 +1,5 @@
--- A record that is written is read back as it was. Assumes nothing.
+-- A record that is written is read back as it was: each number bit for bit. Among the values there is one NaN, written as 0x7fc00000, so a NaN's sign and
+-- payload are not kept. Assumes nothing.
 use Prim.Native.Nat.{ℕ, suc, _+_, _*_, _/_, _<_}
 use native.Mathlib.Nat.{add-zero, add-assoc}
 use native.Mathlib.Omega.{arith}

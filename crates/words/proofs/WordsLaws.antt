@@ -68,7 +68,8 @@ pub wordFrom-wordBytes : (v : ℕ) (rest : List ℕ) → v < 2 ^ 32 → wordFrom
 unfolding wordFrom wordBytes
 wordFrom-wordBytes v rest h = four-digits v h
 
--- NaN too, which is written as the one pattern 0x7fc00000
+-- NaN too, which is written as the one pattern 0x7fc00000. Among the values there is one NaN: which NaN pattern the bytes held, its sign and its payload,
+-- is not kept.
 pub floatFrom-floatBytes : (x : Float) (rest : List ℕ) → T (fits binary32 x) → floatFrom (floatBytes x ++ rest) 0 ≡ x
 unfolding floatFrom floatBytes
 floatFrom-floatBytes x rest f = ap (ofBits binary32) (wordFrom-wordBytes (toBits binary32 x) rest (toBits-lt binary32 x f)) ∙ ofBits-toBits binary32 x f
