@@ -14,7 +14,7 @@ use Rattle.tables.specs.declared.Checked.the-variants.{Fine, Bad}
 use Rattle.tables.specs.Refusal.{Check, number, unless, firstOf, saidAt, First}
 use Rattle.tables.proofs.RefusalLaws as laws
 use Rattle.record.specs.declared.Record.{Record}
-use Rattle.record.specs.Layout.{bytesOf, written}
+use Rattle.record.specs.Layout.{spotWidth, bytesOf, written}
 use Rattle.alp.specs.Due.{due}
 use Rattle.alp.specs.Detect.{detectChecks, Outcome, outcome}
 use Rattle.alp.specs.declared.Answer.{Answer}
@@ -23,7 +23,7 @@ use Rattle.alp.proofs.RefusalsLaws.{first-refused as detect-refuses, none-found
 use Rattle.alp.proofs.Promise.{answer-same, first-written}
 use Rattle.lister.specs.Input.{setFrom, thresholdsFrom, rowsFrom, colsFrom, octaveFrom, areaFrom, levelFrom, listChecks, detectFrom, mapsFrom}
 use Rattle.lister.specs.Text.{linesOf, linesIn, foundLine, refusedLine, Wrote}
-use Rattle.lister.specs.Output.{printed, tileOutput, checkedOutput, listOutput, Begins}
+use Rattle.lister.specs.Output.{mostShown, printed, tileOutput, checkedOutput, listOutput, Begins}
 use Rattle.lister.proofs.TextLaws.{lines-of-bytes}
 
 -- text that was written from the start on
@@ -46,23 +46,23 @@ module _ (b out o : List ℕ) where
   answer-told e = answer-same (setFrom b) (thresholdsFrom b) (rowsFrom b) (colsFrom b) (octaveFrom b) (levelFrom b 0) (levelFrom b 1) (levelFrom b 2) (levelFrom b 3) [] out ∙ sym (ap (λ (x : Outcome). x .answer) e)
 
   -- the count, and the bytes of the first 1,600 records
-  written-told : {n : ℕ} → length out ≡ 64000 → outcome (Found n) o ≡ detectFrom b out → (n ≡ length found) × (take (min 1600 (length found) * 40) o ≡ bytesOf (take 1600 found))
+  written-told : {n : ℕ} → length out ≡ 64000 → outcome (Found n) o ≡ detectFrom b out → (n ≡ length found) × (take (min mostShown (length found) * spotWidth) o ≡ bytesOf (take mostShown found))
   unfolding detectFrom
   written-told {n} long e =
       let w = first-written (setFrom b) (thresholdsFrom b) (rowsFrom b) (colsFrom b) (octaveFrom b) (levelFrom b 0) (levelFrom b 1) (levelFrom b 2) (levelFrom b 3) out n (sym (ap (λ (x : Outcome). x .answer) e)) in
-      let bytes : take (written found out * 40) o ≡ bytesOf (take (length out / 40) found) = ap (λ (x : Outcome). take (written found out * 40) (x .buffer)) e ∙ w .1 in
+      let bytes : take (written found out * spotWidth) o ≡ bytesOf (take (length out / spotWidth) found) = ap (λ (x : Outcome). take (written found out * spotWidth) (x .buffer)) e ∙ w .1 in
       (w .0, rw long at bytes)
 
-  lines-told : {n : ℕ} → length out ≡ 64000 → outcome (Found n) o ≡ detectFrom b out → linesIn (min 1600 n) o ≡ linesOf (take 1600 found)
+  lines-told : {n : ℕ} → length out ≡ 64000 → outcome (Found n) o ≡ detectFrom b out → linesIn (min mostShown n) o ≡ linesOf (take mostShown found)
   lines-told {n} long e =
       let w = written-told long e in
-      let k : ℕ = min 1600 (length found) * 40 in
-      let parts : o ≡ bytesOf (take 1600 found) ++ drop k o = sym (take-append-drop k o) ∙ ap (λ (x : List ℕ). x ++ drop k o) (w .1) in
-      let count : min 1600 n ≡ length (take 1600 found) = ap (min 1600) (w .0) ∙ sym (length-take 1600 found) in
-      ap (linesIn (min 1600 n)) parts ∙ rw count (lines-of-bytes (take 1600 found) (drop k o))
+      let k : ℕ = min mostShown (length found) * spotWidth in
+      let parts : o ≡ bytesOf (take mostShown found) ++ drop k o = sym (take-append-drop k o) ∙ ap (λ (x : List ℕ). x ++ drop k o) (w .1) in
+      let count : min mostShown n ≡ length (take mostShown found) = ap (min mostShown) (w .0) ∙ sym (length-take mostShown found) in
+      ap (linesIn (min mostShown n)) parts ∙ rw count (lines-of-bytes (take mostShown found) (drop k o))
 
   -- what is printed where detection answers Found
-  pub tile-found : {n : ℕ} → length out ≡ 64000 → outcome (Found n) o ≡ detectFrom b out → linesIn (min 1600 n) o ++ foundLine n ≡ tileOutput b
+  pub tile-found : {n : ℕ} → length out ≡ 64000 → outcome (Found n) o ≡ detectFrom b out → linesIn (min mostShown n) o ++ foundLine n ≡ tileOutput b
   unfolding tileOutput printed
   tile-found {n} long e = ap (λ (x : List ℕ). x ++ foundLine n) (lines-told long e) ∙ sym (ap (λ (a : Answer). printed a found) (answer-told e))
 
@@ -99,7 +99,7 @@ module _ (b : List ℕ) where
   detection-refuses w h e = rw (h, e)
 
   -- otherwise the first 1,600 records, and the full count
-  pub list-found : (n : ℕ) → firstOf (listChecks b) ≡ Fine → detectFrom b [] .answer ≡ Found n → listOutput b ≡ linesOf (take 1600 (due (mapsFrom b))) ++ foundLine n
+  pub list-found : (n : ℕ) → firstOf (listChecks b) ≡ Fine → detectFrom b [] .answer ≡ Found n → listOutput b ≡ linesOf (take mostShown (due (mapsFrom b))) ++ foundLine n
   unfolding listOutput checkedOutput tileOutput printed
   list-found n h e = rw (h, e)
 
@@ -141,11 +141,11 @@ module _ (b : List ℕ) where
           (detect-refuses (setFrom b) (thresholdsFrom b) (rowsFrom b) (colsFrom b) (octaveFrom b) (levelFrom b 0) (levelFrom b 1) (levelFrom b 2) (levelFrom b 3) [] r (laws.first-refused tileChecks r e))
 
   -- and where no check holds, the list is printed, and its full count
-  pub none-printed : ((k : ℕ) → saidAt allChecks k ≡ Fine) → listOutput b ≡ linesOf (take 1600 (due (mapsFrom b))) ++ foundLine (length (due (mapsFrom b)))
+  pub none-printed : ((k : ℕ) → saidAt allChecks k ≡ Fine) → listOutput b ≡ linesOf (take mostShown (due (mapsFrom b))) ++ foundLine (length (due (mapsFrom b)))
   unfolding followed detectFrom
   none-printed h = go (firstOf (listChecks b)) refl (sym (front-first (listChecks b) tileChecks) ∙ laws.fine-first allChecks h)
     where
-      go : (w : Checked) → firstOf (listChecks b) ≡ w → followed w (firstOf tileChecks) ≡ Fine → listOutput b ≡ linesOf (take 1600 (due (mapsFrom b))) ++ foundLine (length (due (mapsFrom b)))
+      go : (w : Checked) → firstOf (listChecks b) ≡ w → followed w (firstOf tileChecks) ≡ Fine → listOutput b ≡ linesOf (take mostShown (due (mapsFrom b))) ++ foundLine (length (due (mapsFrom b)))
       go (Bad q) is e = cc
       go Fine is e =
           list-found b _ is

@@ -12,9 +12,9 @@ use lib.Dec.{ltb}
 use borrow.Author.Tests.{lt-ltb, le-ltb, ltb-true, ltb-false}
 use Rattle.io.specs.Digits.{glyph, digits, Fewest}
 use Rattle.record.specs.declared.Record.{Record}
-use Rattle.record.specs.Layout.{recordBytes, bytesOf}
+use Rattle.record.specs.Layout.{spotWidth, recordBytes, bytesOf}
 use Rattle.record.proofs.LayoutLaws.{length-recordBytes}
-use Rattle.lister.specs.Text.{hexDigit, hexOf, lineOf, linesOf, linesIn, decimalBy, decimal, valueAfter, Wrote}
+use Rattle.lister.specs.Text.{lineWidth, hexDigit, hexOf, lineOf, linesOf, linesIn, decimalBy, decimal, valueAfter, Wrote}
 
 -- ---- text written into a buffer
 
@@ -56,18 +56,18 @@ pub length-line : (b : List ℕ) → length (lineOf b) ≡ 2 * length b + 1
 unfolding lineOf
 length-line b = omega (arith, length-append (hexOf b) (10 ∷ []), length-hexOf b)
 
--- a record's line is 81 bytes long
-pub length-record-line : (b : List ℕ) (i : ℕ) → i * 40 + 40 ≤ length b → length (lineOf (take 40 (drop (i * 40) b))) ≡ 81
+-- a record's line is as long as every other
+pub length-record-line : (b : List ℕ) (i : ℕ) → i * spotWidth + spotWidth ≤ length b → length (lineOf (take spotWidth (drop (i * spotWidth) b))) ≡ lineWidth
 length-record-line b i h =
-    let e : length (take 40 (drop (i * 40) b)) ≡ 40 = simp (length-take, length-drop) (omega arith) in
+    let e : length (take spotWidth (drop (i * spotWidth) b)) ≡ spotWidth = simp (length-take, length-drop) (omega arith) in
     rw (length-line, e)
 
 -- a line of the first n records of a buffer comes first
-pub lines-first : (n : ℕ) (b : List ℕ) → linesIn (suc n) b ≡ lineOf (take 40 b) ++ linesIn n (drop 40 b)
+pub lines-first : (n : ℕ) (b : List ℕ) → linesIn (suc n) b ≡ lineOf (take spotWidth b) ++ linesIn n (drop spotWidth b)
 unfolding linesIn
-lines-first zero b = sym (append-nil (lineOf (take 40 b)))
+lines-first zero b = sym (append-nil (lineOf (take spotWidth b)))
 lines-first (suc n) b =
-    let e : 40 + n * 40 ≡ suc n * 40 = omega arith in
+    let e : spotWidth + n * spotWidth ≡ suc n * spotWidth = omega arith in
     rw (lines-first n b, append-assoc, drop-drop, e)
 
 -- the lines of records are those of the buffer that begins with their bytes
@@ -75,7 +75,7 @@ pub lines-of-bytes : (rs : List Record) (rest : List ℕ) → linesIn (length rs
 unfolding linesOf linesIn bytesOf
 lines-of-bytes [] rest = refl
 lines-of-bytes (r ∷ rs) rest =
-    rw (lines-first, append-assoc, take-at (recordBytes r) (bytesOf rs ++ rest) 40 (length-recordBytes r), drop-at (recordBytes r) (bytesOf rs ++ rest) 40 (length-recordBytes r), lines-of-bytes rs rest)
+    rw (lines-first, append-assoc, take-at (recordBytes r) (bytesOf rs ++ rest) spotWidth (length-recordBytes r), drop-at (recordBytes r) (bytesOf rs ++ rest) spotWidth (length-recordBytes r), lines-of-bytes rs rest)
 
 -- ---- decimal digits
 

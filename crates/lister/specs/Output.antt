@@ -13,9 +13,13 @@ use Rattle.alp.specs.declared.Answer.the-variants.{Found, Refused}
 use Rattle.lister.specs.Input.{listChecks, detectFrom, mapsFrom}
 use Rattle.lister.specs.Text.{linesOf, foundLine, refusedLine}
 
--- the first 1,600 records' bytes as 80 hex digits each, then the full count, or `refused` and a number
+-- how many records are printed at most
+abbrev pub mostShown : ℕ
+mostShown = 1600
+
+-- the first records' bytes as hex digits, a line each, then the full count, or `refused` and a number
 unfoldable pub printed : Answer → List Record → List ℕ
-printed (Found n) rs = linesOf (take 1600 rs) ++ foundLine n
+printed (Found n) rs = linesOf (take mostShown rs) ++ foundLine n
 printed (Refused w) rs = refusedLine (number w)
 
 -- what a tile of the right length prints; the answer is that of a call with no room for records, since a short buffer is no refusal

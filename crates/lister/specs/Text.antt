@@ -6,7 +6,7 @@ use mathlib.Core.List.{List, [], _∷_, _++_}
 use lib.ListN.{length, take, drop}
 use lib.Dec.{ltb}
 use Rattle.record.specs.declared.Record.{Record}
-use Rattle.record.specs.Layout.{recordBytes}
+use Rattle.record.specs.Layout.{spotWidth, recordBytes}
 
 -- ---- hex digits
 
@@ -23,7 +23,11 @@ hexOf (x ∷ xs) = hexDigit (x / 16) ∷ hexDigit (x % 16) ∷ hexOf xs
 unfoldable pub lineOf : List ℕ → List ℕ
 lineOf b = hexOf b ++ (10 ∷ [])
 
--- records' bytes as 80 hex digits each, a line for each
+-- how many bytes a record's line has: two digits for each of the record's, and the line's end
+abbrev pub lineWidth : ℕ
+lineWidth = 81
+
+-- records' bytes as hex digits, a line for each
 unfoldable pub linesOf : List Record → List ℕ
 linesOf [] = []
 linesOf (r ∷ rs) = lineOf (recordBytes r) ++ linesOf rs
@@ -31,7 +35,7 @@ linesOf (r ∷ rs) = lineOf (recordBytes r) ++ linesOf rs
 -- the same for the first n records of a buffer
 unfoldable pub linesIn : ℕ → List ℕ → List ℕ
 linesIn zero b = []
-linesIn (suc n) b = linesIn n b ++ lineOf (take 40 (drop (n * 40) b))
+linesIn (suc n) b = linesIn n b ++ lineOf (take spotWidth (drop (n * spotWidth) b))
 
 -- ---- decimal digits
 

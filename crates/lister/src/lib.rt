@@ -8,23 +8,34 @@ ghost use Rattle.io.specs.Counts.{Counts};
 ghost use Rattle.tables.specs.declared.Checked.the-variants.{Fine};
 ghost use Rattle.tables.specs.Refusal.{firstOf};
 ghost use Rattle.lister.specs.Input.{listChecks};
-ghost use Rattle.lister.specs.Output.{tileOutput, listOutput, Begins};
+ghost use Rattle.lister.specs.Output.{mostShown, tileOutput, listOutput, Begins};
 use alp::Answer;
 use tables::Checked;
 
-// How many of the records found are printed: the first 1,600.
+// How many records are printed at most, and the bytes of so many.
+const MOST_SHOWN: usize = 1600;
+
+const SHOWN_BYTES: usize = 64000;
+// Room for so many lines and the count's.
+const OUTPUT: usize = 129640;
+
+// How many of the records found are printed: the first ones.
 fn shown(count: usize) -> usize
-    ensures { λ r. ⌜ r ≡ min 1600 count ⌝ }
+    ensures { λ r. ⌜ r ≡ min mostShown count ⌝ }
 {
-    if count < 1600 { count } else { 1600 }
+    if count < MOST_SHOWN {
+        count
+    } else {
+        MOST_SHOWN
+    }
 }
 
 // What a tile of the right length prints.
-fn list_tile(input: &[u8], out: &mut [u8; 129640]) -> usize
+fn list_tile(input: &[u8], out: &mut [u8; OUTPUT]) -> usize
     requires { ⌜ firstOf (listChecks (now input)) ≡ Fine ⌝ }
     ensures { λ r. ⌜ Begins (now (out .exit)) r (tileOutput (now (input .entry))) ⌝ }
 {
-    let mut records = [0u8; 64000];
+    let mut records = [0u8; SHOWN_BYTES];
     let answer = input::detect_from(input, &mut records);
     match answer {
         Answer::Found(count) => {
@@ -41,7 +52,7 @@ fn list_tile(input: &[u8], out: &mut [u8; 129640]) -> usize
 }
 
 // Puts the output for the input at the start of out, and answers its length.
-pub fn list(input: &[u8], out: &mut [u8; 129640]) -> usize
+pub fn list(input: &[u8], out: &mut [u8; OUTPUT]) -> usize
     ensures { λ r. ⌜ Begins (now (out .exit)) r (listOutput (now (input .entry))) ⌝ }
     ensures { λ r. ⌜ Counts r (now (out .exit)) ⌝ }
 {
@@ -56,7 +67,7 @@ pub fn list(input: &[u8], out: &mut [u8; 129640]) -> usize
 pub fn run() {
     let mut input = [0u8; 58161];
     let n = io::read_full(0, &mut input);
-    let mut out = [0u8; 129640];
+    let mut out = [0u8; OUTPUT];
     let r = list(&input[..n], &mut out);
     io::write_all(1, &out[..r]);
 }

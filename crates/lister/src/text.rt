@@ -3,7 +3,9 @@ ghost use mathlib.Core.Path.{_≡_};
 ghost use mathlib.Core.List.{[], _∷_};
 ghost use Prim.Native.Nat.{_+_, _*_, _<_, _≤_};
 ghost use lib.ListN.{length, take, drop};
-ghost use Rattle.lister.specs.Text.{hexDigit, hexOf, lineOf, linesIn, decimal, foundLine, refusedLine, Wrote};
+ghost use Rattle.record.specs.Layout.{spotWidth};
+ghost use Rattle.lister.specs.Text.{lineWidth, hexDigit, hexOf, lineOf, linesIn, decimal, foundLine, refusedLine, Wrote};
+use record::SPOT_WIDTH;
 
 // One byte.
 fn push(out: &mut [u8], at: usize, byte: u8) -> usize
@@ -35,14 +37,14 @@ fn put_hex(out: &mut [u8], at: usize, byte: u8) -> usize
 
 // The bytes of the record at place i, as a line.
 fn put_line(out: &mut [u8], at: usize, records: &[u8], i: usize) -> usize
-    requires { ⌜ at + 81 ≤ length (now out) ⌝ }
-    requires { ⌜ i * 40 + 40 ≤ length (now records) ⌝ }
-    ensures { λ r. ⌜ Wrote (now (out .entry)) (now (out .exit)) at r (lineOf (take 40 (drop (i * 40) (now (records .entry))))) ⌝ }
+    requires { ⌜ at + lineWidth ≤ length (now out) ⌝ }
+    requires { ⌜ i * spotWidth + spotWidth ≤ length (now records) ⌝ }
+    ensures { λ r. ⌜ Wrote (now (out .entry)) (now (out .exit)) at r (lineOf (take spotWidth (drop (i * spotWidth) (now (records .entry))))) ⌝ }
 {
-    let from = i * 40;
+    let from = i * SPOT_WIDTH;
     let mut next = at;
     let mut k: usize = 0;
-    while k < 40 {
+    while k < SPOT_WIDTH {
         let byte = records[from + k];
         next = put_hex(out, next, byte);
         k += 1;
@@ -52,10 +54,10 @@ fn put_line(out: &mut [u8], at: usize, records: &[u8], i: usize) -> usize
 
 // The first n records, a line for each.
 pub fn put_lines(out: &mut [u8], at: usize, records: &[u8], n: usize) -> usize
-    requires { ⌜ at + n * 81 ≤ length (now out) ⌝ }
-    requires { ⌜ n * 40 ≤ length (now records) ⌝ }
+    requires { ⌜ at + n * lineWidth ≤ length (now out) ⌝ }
+    requires { ⌜ n * spotWidth ≤ length (now records) ⌝ }
     ensures { λ r. ⌜ Wrote (now (out .entry)) (now (out .exit)) at r (linesIn n (now (records .entry))) ⌝ }
-    ensures { λ r. ⌜ r ≡ at + 81 * n ⌝ }
+    ensures { λ r. ⌜ r ≡ at + lineWidth * n ⌝ }
 {
     let mut next = at;
     let mut i: usize = 0;

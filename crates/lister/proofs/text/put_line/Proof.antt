@@ -5,16 +5,17 @@ use mathlib.Core.Path.{_≡_, _∙_}
 use mathlib.Core.List.{[], _∷_}
 use Prim.Native.Nat.{_≤_, _-_, _+_, _*_}
 use lib.ListN.{take, drop, getD, length}
+use Rattle.record.specs.Layout.{spotWidth}
 use Rattle.lister.specs.Text.{hexOf, lineOf, Wrote}
 use Rattle.lister.proofs.TextLaws.{wrote-none, wrote-append, length-hexOf, hex-next}
 use Rattle.lister.proofs.text.put_line.Statement.{statement}
 use Rattle.lister.proofs.text.put_line.Tie as tie
 
 abbrev Inv-loop : tie.InvT-loop
-Inv-loop out₀ at records i from next₀ k₀ out next k = (k ≤ 40) × (next ≡ at + 2 * k) × Wrote out₀ out at next (hexOf (take k (drop (i * 40) records)))
+Inv-loop out₀ at records i from next₀ k₀ out next k = (k ≤ spotWidth) × (next ≡ at + 2 * k) × Wrote out₀ out at next (hexOf (take k (drop (i * spotWidth) records)))
 
 abbrev μ-loop : tie.MeasureT-loop
-μ-loop out₀ at records i from next₀ k₀ out next k = 40 - k
+μ-loop out₀ at records i from next₀ k₀ out next k = spotWidth - k
 
 mul-from : tie.Need-mul-from Inv-loop μ-loop
 mul-from c = omega arith
@@ -43,7 +44,7 @@ loop-again c =
     let l = c .before .before .before .before .before .before .loop in
     let a = c .before .before .before .before .before .before .before .before .before .args in
     let p = c .before .before .put-hex .ensures in
-    (omega arith, omega (arith, p .count, length-hexOf (getD (a .records .now) (a .i * 40 + l .k) 0 ∷ [])), rw (← hex-next (a .records .now) (a .i * 40) (l .k) (omega arith)) (wrote-append (l .inv .2) p))
+    (omega arith, omega (arith, p .count, length-hexOf (getD (a .records .now) (a .i * spotWidth + l .k) 0 ∷ [])), rw (← hex-next (a .records .now) (a .i * spotWidth) (l .k) (omega arith)) (wrote-append (l .inv .2) p))
 
 push-requires : tie.Need-push-requires Inv-loop μ-loop
 push-requires c κs = omega (arith, c .before .before .loop .inv .2 .long)
@@ -55,7 +56,7 @@ returns : tie.Need-returns Inv-loop μ-loop
 unfolding lineOf
 returns c =
     let l = c .before .before .before .before .before .loop in
-    let e : l .k ≡ 40 = omega arith in
+    let e : l .k ≡ spotWidth = omega arith in
     wrote-append (rw e at (l .inv .2)) (c .before .before .push .ensures)
 
 pub put-line-spec : {M : Type 1} → statement M

@@ -3,13 +3,13 @@ use native.Mathlib.Omega.{arith}
 use mathlib.Core.Path.{_≡_}
 use Prim.Native.Nat.{_≤_, _-_, _+_, _*_}
 use native.Mathlib.Numerals.{add-one}
-use Rattle.lister.specs.Text.{linesIn, Wrote}
+use Rattle.lister.specs.Text.{lineWidth, linesIn, Wrote}
 use Rattle.lister.proofs.TextLaws.{wrote-none, wrote-append, length-record-line}
 use Rattle.lister.proofs.text.put_lines.Statement.{statement}
 use Rattle.lister.proofs.text.put_lines.Tie as tie
 
 abbrev Inv-loop : tie.InvT-loop
-Inv-loop out₀ at records n next₀ i₀ out next i = (i ≤ n) × (next ≡ at + 81 * i) × Wrote out₀ out at next (linesIn i records)
+Inv-loop out₀ at records n next₀ i₀ out next i = (i ≤ n) × (next ≡ at + lineWidth * i) × Wrote out₀ out at next (linesIn i records)
 
 abbrev μ-loop : tie.MeasureT-loop
 μ-loop out₀ at records n next₀ i₀ out next i = n - i
