@@ -1,7 +1,7 @@
--- What detection's promise settles: one answer and one buffer for each call, and what becomes of the buffer's bytes.
+-- What becomes of the bytes of the lent buffer in a call of detection.
 use Prim.Native.Nat.{ℕ, _*_, _/_, _≤_}
 use mathlib.Core.List.{List}
-use mathlib.Core.Path.{_≡_, refl, sym, ap, _∙_}
+use mathlib.Core.Path.{_≡_, refl}
 use lib.ListN.{length, getD, take}
 use lib.Ieee.{Float}
 use Rattle.tables.specs.declared.Set.{Set}
@@ -13,8 +13,7 @@ use Rattle.record.specs.Layout.{spotWidth, bytesOf, written}
 use Rattle.record.proofs.LayoutLaws.{length-laid, laid-first, laid-keeps}
 use Rattle.alp.specs.Level.{Maps, mapsOf}
 use Rattle.alp.specs.Due.{due}
-use Rattle.alp.specs.Detect.{Outcome, outcome, detected, detectOf}
-use Rattle.alp.specs.declared.Answer.{Answer}
+use Rattle.alp.specs.Detect.{Outcome, detected, detectOf}
 use Rattle.alp.specs.declared.Answer.the-variants.{Found}
 
 -- ---- over the outcome of the checks

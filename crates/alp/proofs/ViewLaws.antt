@@ -2,12 +2,10 @@
 use Prim.Native.Nat.{ℕ, _+_, _-_, _*_, _/_, _≤_, _<_, min}
 use native.Mathlib.Nat.{div-lt-iff-lt-mul, le-div-iff-mul-le}
 use native.Mathlib.Omega.{arith}
-use mathlib.Core.Path.{_≡_, sym, ap, _∙_}
+use mathlib.Core.Path.{_≡_, ap}
 use mathlib.Core.List.{List}
 use lib.ListN.{length, getD, List·getD-eq-default}
 use lib.Ieee.{Float, nan}
-use denote.Ref.{RefT}
-use Rattle.alp.specs.declared.view.LevelView.{LevelView}
 use Rattle.alp.specs.Level.{pixelAt, stencilOf, sampleAt}
 use Rattle.alp.proofs.LevelLaws.{right-place, down-place}
 

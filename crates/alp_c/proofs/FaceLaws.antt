@@ -1,4 +1,4 @@
--- What the C face's promises settle: one answer for each call, and when a set's record is refused.
+-- What the C face leaves of an outcome, and when a set's record is refused.
 use Prim.Native.Nat.{ℕ, zero, suc, _<_}
 use native.Mathlib.Omega.{arith}
 use mathlib.Core.Bool.{Bool, true, false, not, _&&_}
@@ -27,7 +27,7 @@ use Rattle.join.specs.Join as join
 use Rattle.join.specs.declared.Joined.{Joined}
 use Rattle.pyramid.specs.Pyramid as pyramid
 use Rattle.pyramid.specs.declared.Halved.{Halved}
-use Rattle.alp_c.specs.Face.{packed, Left, left, leftBy, detectFace, checkFace, joinPacked, joinLeft, joinFace, SizeLeft, correctFace, halvedNumber, rowsAfter, colsAfter, HalvedLeft, halvedLeft, downsampleFace}
+use Rattle.alp_c.specs.Face.{packed, Left, left, leftBy, detectFace, checkFace, joinPacked, joinLeft, halvedNumber, rowsAfter, colsAfter, halvedLeft}
 
 pub left-by : {a : Answer} {o : List ℕ} {r v : ℕ} {d : Outcome} → r ≡ packed a .number → v ≡ packed a .value → outcome a o ≡ d → left r v o ≡ leftBy d
 left-by p q e = rw (p, q) (ap leftBy e)

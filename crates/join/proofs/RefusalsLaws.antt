@@ -1,4 +1,4 @@
--- What the join's promise settles: one answer and one buffer for each call, the first of its checks that holds, and what becomes of the buffer's bytes.
+-- What the join's promise settles: the first of its checks that holds, and what becomes of the buffer's bytes.
 use Prim.Native.Nat.{ℕ, _+_, _-_, _*_, _/_, _%_, _≤_, _<_}
 use native.Mathlib.Omega.{arith}
 use mathlib.Core.Bool.{Bool, true, false, not}
@@ -17,9 +17,8 @@ use Rattle.tables.specs.declared.Checked.{Checked}
 use Rattle.tables.specs.declared.Checked.the-variants.{Fine, Bad}
 use Rattle.record.specs.Layout.{spotWidth}
 use Rattle.join.specs.Sized.{sizedWidth}
-use Rattle.join.specs.Join.{badOf, recordsOf, sizedAll, laidSized, joinChecks, Outcome, outcome, joined, joinOf}
+use Rattle.join.specs.Join.{badOf, recordsOf, sizedAll, laidSized, joinChecks, Outcome, joined, joinOf}
 use Rattle.join.specs.Claims.{WrongLength, FirstBad}
-use Rattle.join.specs.declared.Joined.{Joined}
 use Rattle.join.specs.declared.Joined.the-variants.{Count, Refused}
 use Rattle.join.proofs.CheckLaws.{fair-before, bad-unfair, checks-passed}
 use Rattle.join.proofs.SizedLaws.{length-all, stored-laid}

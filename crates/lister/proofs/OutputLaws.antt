@@ -1,4 +1,4 @@
--- Laws of the output: what the records' buffer and the answer of detection give, and one output for each input.
+-- Laws of the output: what the records' buffer and the answer of detection give, and the first check that holds.
 use Prim.Native.Nat.{ℕ, _+_, _*_, _/_, _≤_, _<_, min}
 use native.Mathlib.Nat.{zero-add}
 use native.Mathlib.Omega.{arith}

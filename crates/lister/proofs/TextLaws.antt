@@ -7,14 +7,14 @@ use mathlib.Core.Bool.{Bool, true, false, cond}
 use mathlib.Core.Path.{_≡_, refl, sym, ap, _∙_}
 use mathlib.Core.List.{List, [], _∷_, _++_, append-assoc, append-nil}
 use lib.ListN.{length, getD, take, drop, set, length-append, length-take, length-drop, length-set}
-use lib.Seq.{take-suc, take-suc-set, getD-drop, take-take, drop-drop, take-all, getD-take, take-add, take-at, drop-at}
+use lib.Seq.{take-suc, take-suc-set, getD-drop, drop-drop, take-at, drop-at}
 use lib.Dec.{ltb}
 use borrow.Author.Tests.{lt-ltb, le-ltb, ltb-true, ltb-false}
-use Rattle.io.specs.Digits.{glyph, digits, Fewest}
+use Rattle.io.specs.Digits.{digits, Fewest}
 use Rattle.record.specs.declared.Record.{Record}
 use Rattle.record.specs.Layout.{spotWidth, recordBytes, bytesOf}
 use Rattle.record.proofs.LayoutLaws.{length-recordBytes}
-use Rattle.lister.specs.Text.{lineWidth, hexDigit, hexOf, lineOf, linesOf, linesIn, decimalBy, decimal, valueAfter, Wrote}
+use Rattle.lister.specs.Text.{lineWidth, hexOf, lineOf, linesOf, linesIn, decimalBy, decimal, valueAfter, Wrote}
 
 -- ---- text written into a buffer
 

@@ -1,7 +1,7 @@
 -- What fails a pixel's own gates.
 use mathlib.Core.Path.{_≡_, refl}
 use mathlib.Core.List.{List, [], _∷_}
-use mathlib.Core.Bool.{Bool, true, false, _&&_, _||_, and-false}
+use mathlib.Core.Bool.{Bool, true, false, _&&_, and-false}
 use lib.Ieee.{Float, lt, isNan}
 use Rattle.float.specs.Small.{minOf, maxOf}
 use Rattle.tables.specs.declared.Set.{Set}

@@ -4,7 +4,7 @@ use Prim.Native.Nat.{ℕ, _+_, _*_, _/_, _-_, _≤_, _<_}
 use native.Mathlib.Omega.{arith}
 use mathlib.Core.Bool.{Bool, true, false, cond}
 use mathlib.Core.List.{List}
-use mathlib.Core.Path.{_≡_, refl, sym, ap, _∙_}
+use mathlib.Core.Path.{_≡_, refl, _∙_}
 use lib.ListN.{length, getD, drop, length-append, length-drop, List·getD-append}
 use lib.Seq.{getD-append-add, getD-drop}
 use lib.Dec.{ltb, leb}
@@ -13,10 +13,9 @@ use borrow.Author.Tests.{ltb-false, leb-false, le-ltb, lt-leb}
 use Rattle.tables.specs.declared.Refusal.{Refusal}
 use Rattle.tables.specs.declared.Checked.{Checked}
 use Rattle.tables.specs.declared.Checked.the-variants.{Fine, Bad}
-use Rattle.tables.specs.Refusal.{Check, firstOf, saidAt, First}
+use Rattle.tables.specs.Refusal.{Check, saidAt, First}
 use Rattle.tables.proofs.RefusalLaws as order
-use Rattle.pyramid.specs.Pyramid.{octavesOf, octaveCountOf, halfOf, halvedOf, needed, downsampleChecks, Outcome, outcome, downsampled, downsampleOf}
-use Rattle.pyramid.specs.declared.Halved.{Halved}
+use Rattle.pyramid.specs.Pyramid.{octavesOf, octaveCountOf, halfOf, halvedOf, needed, downsampleChecks, Outcome, downsampled, downsampleOf}
 use Rattle.pyramid.specs.declared.Halved.the-variants.{Sides, Refused}
 use Rattle.pyramid.proofs.HalvedLaws.{halved-pixel, pixel-before, length-halved, checks-passed}
 

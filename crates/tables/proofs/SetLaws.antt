@@ -1,4 +1,4 @@
--- What a good set gives, what the reader accepts and refuses, that each promise allows one answer, and that set T is good.
+-- What a good set gives, what the reader accepts and refuses, and that set T is good.
 use mathlib.Core.Path.{_≡_, refl, sym, ap, _∙_}
 use mathlib.Core.Bool.{Bool, true, false, not, false≢true}
 use mathlib.Core.List.{List, [], _∷_}

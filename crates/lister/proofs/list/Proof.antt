@@ -1,5 +1,4 @@
 -- `list` meets its contract.
-use native.Mathlib.Omega.{arith}
 use mathlib.Core.Path.{sym, _∙_}
 use Rattle.lister.specs.Output.{checkedOutput, listOutput}
 use Rattle.lister.proofs.OutputLaws.{wrote-begins, begins-counts}

@@ -1,5 +1,5 @@
 -- `marks::beats_place` meets its contract: the place's samples are taken where it is asked.
-use mathlib.Core.Path.{sym, _∙_}
+use mathlib.Core.Path.{sym}
 use borrow.Author.Tests.{eq-eqb, ne-eqb}
 use Rattle.pixel.proofs.StandsLaws.{beats-itself}
 use Rattle.alp.specs.Level.{samplesOf}

@@ -5,7 +5,6 @@ use native.Mathlib.Omega.{arith}
 use Rattle.alp.specs.Level.{mapsOf}
 use Rattle.alp.specs.Inside.Marks.{Column}
 use Rattle.alp.proofs.MarksLaws.{column-none, column-more}
-use borrow.Author.Needs.{needs}
 use Rattle.alp.proofs.marks.mark_column.Statement.{statement}
 use Rattle.alp.proofs.marks.mark_column.Tie as tie
 

@@ -1,6 +1,5 @@
 -- `input::area_from` meets its contract.
 use native.Mathlib.Omega.{arith}
-use borrow.Author.Needs.{needs}
 use Prim.Native.Nat.{_≤_}
 use mathlib.Core.Path.{refl}
 use Rattle.lister.proofs.InputLaws.{checks-tile, area-sixty}

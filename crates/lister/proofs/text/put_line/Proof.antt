@@ -1,10 +1,9 @@
 -- `text::put_line` meets its contract. The loop's invariant: the hex digits of the first k bytes stand there.
 use native.Mathlib.Omega.{arith}
-use borrow.Author.Needs.{needs}
 use mathlib.Core.Path.{_≡_, _∙_}
 use mathlib.Core.List.{[], _∷_}
 use Prim.Native.Nat.{_≤_, _-_, _+_, _*_}
-use lib.ListN.{take, drop, getD, length}
+use lib.ListN.{take, drop, getD}
 use Rattle.record.specs.Layout.{spotWidth}
 use Rattle.lister.specs.Text.{hexOf, lineOf, Wrote}
 use Rattle.lister.proofs.TextLaws.{wrote-none, wrote-append, length-hexOf, hex-next}

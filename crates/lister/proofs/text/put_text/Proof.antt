@@ -1,6 +1,6 @@
 -- `text::put_text` meets its contract. The loop's invariant: the first k bytes stand there.
 use native.Mathlib.Omega.{arith}
-use mathlib.Core.Path.{_≡_, _∙_}
+use mathlib.Core.Path.{_≡_}
 use Prim.Native.Nat.{_≤_, _-_, _+_, _<_}
 use native.Mathlib.Numerals.{add-one}
 use lib.ListN.{take, length}
