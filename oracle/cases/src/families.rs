@@ -5,7 +5,7 @@ use crate::maps;
 use crate::mirrored;
 use crate::overshoot;
 use crate::random::{Random, power};
-use crate::records;
+use crate::records::{self, SIZED, SPOT};
 use crate::rounding;
 use crate::sets::{self, Set};
 use crate::turning;
@@ -315,7 +315,7 @@ fn detect(random: &mut Random, number: usize) -> Case {
     if bad {
         scene.set = sets::damaged(random);
     }
-    let room = random.pick(&[0, 39, 40, 41, 79, 80, 81, 400, 4000, 40_000, 108_160]);
+    let room = random.pick(&[0, SPOT - 1, SPOT, SPOT + 1, 2 * SPOT - 1, 2 * SPOT, 2 * SPOT + 1, 10 * SPOT, 100 * SPOT, 1000 * SPOT, 2704 * SPOT]);
     Case::Detect {
         scene,
         room,
@@ -352,10 +352,10 @@ fn join(random: &mut Random, number: usize) -> Case {
     if bad_set {
         set = sets::damaged(random);
     }
-    let needed = list.len() / records::SPOT * records::SIZED;
+    let needed = list.len() / SPOT * SIZED;
     let given = match room {
-        true => needed.saturating_sub(random.pick(&[1, 1, 51, 52, 53])),
-        false => needed + random.pick(&[0, 0, 1, 13, 52, 60]),
+        true => needed.saturating_sub(random.pick(&[1, 1, SIZED - 1, SIZED, SIZED + 1])),
+        false => needed + random.pick(&[0, 0, 1, SIZED / 4, SIZED, SIZED + 8]),
     };
     Case::Join {
         set,
@@ -372,7 +372,7 @@ fn damaged_records(random: &mut Random) -> Case {
     let (rows, cols) = random.pick(&[(9, 10), (60, 60), (1, 1), (4096, 4096), (30, 7), (1, 4096)]);
     let set = sets::real(random);
     let list = records::damaged(random, &set.sigmas, rows, cols);
-    let room = list.len() / records::SPOT * records::SIZED;
+    let room = list.len() / SPOT * SIZED;
     Case::Join {
         set,
         rows,
@@ -503,7 +503,7 @@ fn wide(random: &mut Random, number: usize) -> Case {
     let set = sets::real(random);
     Case::Detect {
         scene: under(random, set, rows, cols),
-        room: 40 * 6000,
+        room: SPOT * 6000,
         fill: 7,
     }
 }
@@ -524,7 +524,7 @@ fn widest(random: &mut Random) -> Case {
     };
     Case::Detect {
         scene,
-        room: 40 * 100_000,
+        room: SPOT * 100_000,
         fill: 7,
     }
 }

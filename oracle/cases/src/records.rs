@@ -118,7 +118,7 @@ pub fn damaged(random: &mut Random, sigmas: &[f32; 4], rows: usize, cols: usize)
         list.extend_from_slice(&sound(random, sigmas, rows, cols));
     }
     if random.once_in(8) {
-        let length = list.len() - random.from_to(1, 39);
+        let length = list.len() - random.from_to(1, SPOT - 1);
         list.truncate(length);
     }
     list
@@ -146,7 +146,7 @@ pub fn list(
             spoil(random, rows, cols, &mut list[at..at + SPOT]);
         }
         if random.once_in(3) {
-            let length = list.len() - random.from_to(1, 39);
+            let length = list.len() - random.from_to(1, SPOT - 1);
             list.truncate(length);
         }
     }

@@ -1,5 +1,6 @@
 //! The judge as a subject, so that one driver serves every comparison.
 
+use cases::records::SPOT;
 use cases::{Scene, Set};
 use judge::{Answer, Logs, Map, Pass, Rules, inner, steps};
 use subject::{Reply, Subject};
@@ -57,7 +58,7 @@ pub fn map_of(scene: &Scene) -> Map<'_> {
 impl Judge {
     /// A scene's list as the list program prints it.
     fn printed(&mut self, scene: &Scene) -> Vec<u8> {
-        let mut out = vec![0u8; 80 * scene.rows * scene.cols];
+        let mut out = vec![0u8; 2 * SPOT * scene.rows * scene.cols];
         match self.detect(scene, &mut out) {
             Some(Reply::Done(count)) => {
                 let hex = |record: &[u8]| {
@@ -66,7 +67,7 @@ impl Judge {
                         .map(|byte| format!("{byte:02x}"))
                         .collect::<String>()
                 };
-                let records = out[..40 * count].chunks_exact(40).take(1600);
+                let records = out[..SPOT * count].chunks_exact(SPOT).take(1600);
                 let lines: String = records.map(|record| hex(record) + "\n").collect();
                 format!("{lines}found {count}\n").into_bytes()
             }

@@ -3,6 +3,7 @@
 use crate::judged::{Judge, from_judge, map_of, read_back, set_of};
 use crate::plan;
 use cases::random::Random;
+use cases::records::SPOT;
 use cases::{Case, Scene, edges, sets};
 use judge::{Logs, Pass, Rules, inner};
 use subject::{Reply, Subject, difference};
@@ -19,10 +20,10 @@ pub fn told(name: &str, fault: Option<String>, seen: &str) -> bool {
 /// The whole answer of one pass: its reply and every record.
 fn whole(mut pass: Judge, scene: &Scene) -> (Option<Reply>, Vec<u8>) {
     let side = |side: usize| side.min(4096);
-    let mut out = vec![0x3cu8; 80 * side(scene.rows) * side(scene.cols)];
+    let mut out = vec![0x3cu8; 2 * SPOT * side(scene.rows) * side(scene.cols)];
     let reply = pass.detect(scene, &mut out);
     if let Some(Reply::Done(count)) = reply {
-        out.truncate(40 * count);
+        out.truncate(SPOT * count);
     }
     (reply, out)
 }
@@ -122,7 +123,7 @@ pub fn builds(seed: u64, times: usize) -> bool {
             let random = &mut Random::new(seed, 301 + index as u64, number as u64);
             let scene = fixed_scene(random, &set);
             let (pass, map) = (Pass::Reference, map_of(&scene));
-            let mut out = vec![0u8; 80 * scene.rows * scene.cols];
+            let mut out = vec![0u8; 2 * SPOT * scene.rows * scene.cols];
             let mut again = out.clone();
             let answer = judge::fixed::detect(index, pass, map, &mut out);
             let same = judge::detect(Rules::Published, pass, &set, map, &mut again);

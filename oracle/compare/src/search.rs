@@ -3,6 +3,7 @@
 use crate::judged::Judge;
 use cases::edges::{self, PIXELS, SET, scene_float, turned_correction};
 use cases::random::Random;
+use cases::records::SPOT;
 use cases::{Case, Knob, Scene};
 use subject::{Reply, Subject};
 
@@ -37,10 +38,10 @@ fn turning(held: f32, lost: f32, mut holds: impl FnMut(f32) -> bool) -> (f32, f3
 
 /// The keys and polarities that a scene lists.
 pub fn listed(scene: &Scene) -> Vec<(u32, u8)> {
-    let mut out = vec![0u8; 80 * scene.rows * scene.cols];
+    let mut out = vec![0u8; 2 * SPOT * scene.rows * scene.cols];
     match Judge::sound().detect(scene, &mut out) {
-        Some(Reply::Done(count)) => out[..40 * count]
-            .chunks_exact(40)
+        Some(Reply::Done(count)) => out[..SPOT * count]
+            .chunks_exact(SPOT)
             .map(key_and_polarity)
             .collect(),
         _ => Vec::new(),

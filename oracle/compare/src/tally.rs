@@ -1,5 +1,6 @@
 //! What a run of cases has reached: maps, spots, pixels with both polarities, spots at sigma 0, each gate's rejections.
 
+use cases::records::SPOT;
 use cases::{Case, Scene};
 use std::collections::BTreeMap;
 
@@ -56,15 +57,15 @@ impl Tally {
     }
 
     fn add_scene(&mut self, scene: &Scene) {
-        let mut out = vec![0u8; 80 * scene.rows * scene.cols];
+        let mut out = vec![0u8; 2 * SPOT * scene.rows * scene.cols];
         let mut judge = crate::judged::Judge::sound();
         let reply = subject::Subject::detect(&mut judge, scene, &mut out);
         if let Some(subject::Reply::Done(count)) = reply {
             let word = |record: &[u8], from: usize| {
                 u32::from_be_bytes(core::array::from_fn(|place| record[from + place]))
             };
-            let records: Vec<(u32, u32)> = out[..40 * count]
-                .chunks_exact(40)
+            let records: Vec<(u32, u32)> = out[..SPOT * count]
+                .chunks_exact(SPOT)
                 .map(|record| (word(record, 32), word(record, 8)))
                 .collect();
             self.add_records(count, &records);

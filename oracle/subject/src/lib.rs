@@ -1,5 +1,6 @@
 //! What is under test, behind one trait, and its answers as plain bytes.
 
+use cases::records::{SIZED, SPOT};
 use cases::{Case, Scene, Set};
 
 #[cfg(feature = "archive")]
@@ -171,17 +172,17 @@ fn halved(subject: &mut dyn Subject, case: &Case) -> Option<Vec<u8>> {
 
 /// Detection into enough room, then the join of its list.
 fn sized(subject: &mut dyn Subject, scene: &Scene) -> Option<Vec<u8>> {
-    let mut list = vec![0u8; 80 * scene.rows * scene.cols];
+    let mut list = vec![0u8; 2 * SPOT * scene.rows * scene.cols];
     let reply = subject.detect(scene, &mut list)?;
     let Reply::Done(count) = reply else {
         return Some(with_reply(reply, &list));
     };
-    let mut out = vec![0x5au8; 52 * count];
+    let mut out = vec![0x5au8; SIZED * count];
     let reply = subject.join(
         &scene.set,
         scene.rows,
         scene.cols,
-        &list[..40 * count],
+        &list[..SPOT * count],
         &mut out,
     )?;
     Some(with_reply(reply, &out))

@@ -86,7 +86,7 @@ fn sized(cols: usize, spot: &[u8]) -> [u8; SIZED] {
     let key = record::key(spot);
     let mut bytes = [0; SIZED];
     bytes[..SPOT].copy_from_slice(spot);
-    bytes[40..44].copy_from_slice(&size.unwrap_or(0.0).to_le_bytes());
+    bytes[SPOT..SPOT + 4].copy_from_slice(&size.unwrap_or(0.0).to_le_bytes());
     bytes[44..46].copy_from_slice(&((key / cols) as u16).to_le_bytes());
     bytes[46..48].copy_from_slice(&((key % cols) as u16).to_le_bytes());
     bytes[48] = size.is_some() as u8;
