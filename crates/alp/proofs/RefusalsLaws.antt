@@ -53,9 +53,9 @@ module _ (s : Set) (th : Thresholds) (rows cols octave : ℕ) (l0 l1 l2 l3 : Lis
   refused-first r e = laws.first-refused checks r (answer-refused _ maps out r e)
 
   -- and the first that holds is answered
-  pub first-refused : (r : Refusal) → First checks r → after .answer ≡ Refused r
+  pub first-answered : (r : Refusal) → First checks r → after .answer ≡ Refused r
   unfolding detectOf detected
-  first-refused r f = rw (laws.refused-first checks r f)
+  first-answered r f = rw (laws.refused-first checks r f)
 
   -- a refusal writes nothing
   pub refused-keeps : (r : Refusal) → after .answer ≡ Refused r → after .buffer ≡ out

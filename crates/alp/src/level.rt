@@ -1,8 +1,16 @@
 // What is read of the four levels: a pixel's samples, and those at the nine places around it.
 ghost use mathlib.Core.Path.{_≡_};
 ghost use lib.ListN.{length};
+ghost use Rattle.float.specs.Num.{_⊗_};
 ghost use Rattle.alp.specs.Level.{sampleAt, samplesOf, nineOf, Inner, Within, Sized};
 use pixel::Frame;
+
+// The sum of a sample's pixels, scaled by sigma squared.
+fn scaled(sum: f32, sigma: f32) -> f32
+    ensures { λ r. ⌜ r ≡ sum ⊗ (sigma ⊗ sigma) ⌝ }
+{
+    sum * (sigma * sigma)
+}
 
 // A level's sample at (row, col).
 fn log_response_at(level: &[f32], rows: usize, row: usize, col: usize, sigma: f32) -> f32
@@ -10,8 +18,8 @@ fn log_response_at(level: &[f32], rows: usize, row: usize, col: usize, sigma: f3
     ensures { λ r. ⌜ r ≡ sampleAt (now (level .entry)) rows row col sigma ⌝ }
 {
     let p = col * rows + row;
-    (level[p - rows] + level[p + rows] + level[p - 1] + level[p + 1] - 4.0 * level[p])
-        * (sigma * sigma)
+    let sum = level[p - rows] + level[p + rows] + level[p - 1] + level[p + 1] - 4.0 * level[p];
+    scaled(sum, sigma)
 }
 
 // The four levels' samples at (row, col).

@@ -22,7 +22,7 @@ use Rattle.tables.proofs.SetLaws.{good-record-read, bad-record-refused}
 use Rattle.alp.specs.Detect.{detectChecks, Outcome, outcome, detectOf}
 use Rattle.alp.specs.declared.Answer.{Answer}
 use Rattle.alp.specs.declared.Answer.the-variants.{Found, Refused}
-use Rattle.alp.proofs.RefusalsLaws.{refused-first, first-refused}
+use Rattle.alp.proofs.RefusalsLaws.{refused-first, first-answered}
 use Rattle.join.specs.Join as join
 use Rattle.join.specs.declared.Joined.{Joined}
 use Rattle.pyramid.specs.Pyramid as pyramid
@@ -131,4 +131,4 @@ module _ (b : List ℕ) (th : Thresholds) (rows cols octave : ℕ) (l0 l1 l2 l3 
   -- and it is answered wherever that is so
   pub only-set-four : OnlySet b rows cols octave l0 l1 l2 l3 → after .number ≡ 4
   unfolding detectFace packed number
-  only-set-four p = rw (first-refused s th rows cols octave l0 l1 l2 l3 out BadSet (record { place = 3; holds = set-said (p .record-bad); earlier = p .earlier }))
+  only-set-four p = rw (first-answered s th rows cols octave l0 l1 l2 l3 out BadSet (record { place = 3; holds = set-said (p .record-bad); earlier = p .earlier }))

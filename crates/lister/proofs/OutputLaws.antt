@@ -19,7 +19,7 @@ use Rattle.alp.specs.Due.{due}
 use Rattle.alp.specs.Detect.{detectChecks, Outcome, outcome}
 use Rattle.alp.specs.declared.Answer.{Answer}
 use Rattle.alp.specs.declared.Answer.the-variants.{Found, Refused}
-use Rattle.alp.proofs.RefusalsLaws.{first-refused as detect-refuses, none-found as detect-finds}
+use Rattle.alp.proofs.RefusalsLaws.{first-answered as detect-refuses, none-found as detect-finds}
 use Rattle.alp.proofs.Promise.{answer-same, first-written}
 use Rattle.lister.specs.Input.{setFrom, thresholdsFrom, rowsFrom, colsFrom, octaveFrom, areaFrom, levelFrom, listChecks, detectFrom, mapsFrom}
 use Rattle.lister.specs.Text.{linesOf, linesIn, foundLine, refusedLine, Wrote}

@@ -3,7 +3,7 @@ use Prim.Native.Nat.{ℕ}
 use mathlib.Core.List.{List, [], _∷_, _++_}
 use lib.ListN.{replicate, set}
 use lib.Ieee.{Float, binary32, ofBits}
-use Rattle.float.specs.Num.{f0, f1}
+use Rattle.float.specs.Num.{f0, f1, f¼}
 use Rattle.tables.specs.declared.Set.{Set}
 
 -- the values with these bit patterns
@@ -25,7 +25,7 @@ row i v = set (replicate 9 f0) i v
 
 -- a spatial block: zero but w1 = sample 3, w2 = sample 5, w4 = 0.25 of sample 4
 unfoldable pub blockT : List Float
-blockT = row 3 f1 ++ row 5 f1 ++ replicate 9 f0 ++ row 4 (ofBits binary32 0x3e800000) ++ replicate 9 f0
+blockT = row 3 f1 ++ row 5 f1 ++ replicate 9 f0 ++ row 4 f¼ ++ replicate 9 f0
 
 -- geometry 1, 0.5, -4, 4, 0.5, 16, 0.5, 1, 0.125, 0.5, 1
 unfoldable pub numbersT : List Float
