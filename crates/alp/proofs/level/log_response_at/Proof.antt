@@ -1,6 +1,7 @@
 -- `level::log_response_at` meets its contract: the five pixels that it reads are those of the sample.
 use native.Mathlib.Nat.{mul-le-mul-right}
 use native.Mathlib.Omega.{arith}
+use mathlib.Core.Path.{_∙_}
 use Rattle.alp.specs.Level.{stencilOf}
 use Rattle.alp.proofs.LevelLaws.{sample-reads}
 use borrow.Author.Needs.{needs}
@@ -13,51 +14,54 @@ mul-p c = search needs
 add-p : tie.Need-add-p
 add-p c = search needs
 
-sub-result : tie.Need-sub-result
-sub-result c = omega (arith, mul-le-mul-right (c .args .rows) (c .pre .left))
+sub-sum : tie.Need-sub-sum
+sub-sum c = omega (arith, mul-le-mul-right (c .before .args .rows) (c .before .pre .left))
 
-mul-result : tie.Need-mul-result
-mul-result c = search needs
+mul-sum : tie.Need-mul-sum
+mul-sum c = search needs
 
-shared-slice-read-result : tie.Need-shared-slice-read-result
-shared-slice-read-result c = search needs
+shared-slice-read-sum : tie.Need-shared-slice-read-sum
+shared-slice-read-sum c = search needs
 
-add-result : tie.Need-add-result
-add-result c = search needs
+add-sum : tie.Need-add-sum
+add-sum c = search needs
 
-mul-result-2 : tie.Need-mul-result-2
-mul-result-2 c = search needs
+mul-sum-2 : tie.Need-mul-sum-2
+mul-sum-2 c = search needs
 
-shared-slice-read-result-2 : tie.Need-shared-slice-read-result-2
-shared-slice-read-result-2 c = search needs
+shared-slice-read-sum-2 : tie.Need-shared-slice-read-sum-2
+shared-slice-read-sum-2 c = search needs
 
-sub-result-2 : tie.Need-sub-result-2
-sub-result-2 c = search needs
+sub-sum-2 : tie.Need-sub-sum-2
+sub-sum-2 c = search needs
 
-mul-result-3 : tie.Need-mul-result-3
-mul-result-3 c = search needs
+mul-sum-3 : tie.Need-mul-sum-3
+mul-sum-3 c = search needs
 
-shared-slice-read-result-3 : tie.Need-shared-slice-read-result-3
-shared-slice-read-result-3 c = search needs
+shared-slice-read-sum-3 : tie.Need-shared-slice-read-sum-3
+shared-slice-read-sum-3 c = search needs
 
-add-result-2 : tie.Need-add-result-2
-add-result-2 c = search needs
+add-sum-2 : tie.Need-add-sum-2
+add-sum-2 c = search needs
 
-mul-result-4 : tie.Need-mul-result-4
-mul-result-4 c = search needs
+mul-sum-4 : tie.Need-mul-sum-4
+mul-sum-4 c = search needs
 
-shared-slice-read-result-4 : tie.Need-shared-slice-read-result-4
-shared-slice-read-result-4 c = search needs
+shared-slice-read-sum-4 : tie.Need-shared-slice-read-sum-4
+shared-slice-read-sum-4 c = search needs
 
-mul-result-5 : tie.Need-mul-result-5
-mul-result-5 c = search needs
+mul-sum-5 : tie.Need-mul-sum-5
+mul-sum-5 c = search needs
 
-shared-slice-read-result-5 : tie.Need-shared-slice-read-result-5
-shared-slice-read-result-5 c = search needs
+shared-slice-read-sum-5 : tie.Need-shared-slice-read-sum-5
+shared-slice-read-sum-5 c = search needs
+
+scaled-requires : tie.Need-scaled-requires
+scaled-requires c κs = search needs
 
 returns : tie.Need-returns
 unfolding stencilOf
-returns c = sample-reads _ _ _ _ _ (c .before .before .before .before .before .pre .up) (c .before .before .before .before .before .pre .left)
+returns c = let entry = c .before .before .before .before .before .before .before in c .scaled .ensures ∙ sample-reads _ _ _ _ _ (entry .pre .up) (entry .pre .left)
 
 pub log-response-at-spec : {M : Type 1} → statement M
 log-response-at-spec =
@@ -65,18 +69,19 @@ log-response-at-spec =
     (tie.spec
     mul-p
     add-p
-    sub-result
-    mul-result
-    shared-slice-read-result
-    add-result
-    mul-result-2
-    shared-slice-read-result-2
-    sub-result-2
-    mul-result-3
-    shared-slice-read-result-3
-    add-result-2
-    mul-result-4
-    shared-slice-read-result-4
-    mul-result-5
-    shared-slice-read-result-5
+    sub-sum
+    mul-sum
+    shared-slice-read-sum
+    add-sum
+    mul-sum-2
+    shared-slice-read-sum-2
+    sub-sum-2
+    mul-sum-3
+    shared-slice-read-sum-3
+    add-sum-2
+    mul-sum-4
+    shared-slice-read-sum-4
+    mul-sum-5
+    shared-slice-read-sum-5
+    scaled-requires
     returns)
