@@ -5,10 +5,13 @@ ghost use Rattle.float.specs.Exp.{fixedOf, stepOf, seriesOf, expUp, expD
 
 // ln 2 in units of 2^-30, rounded down.
 const LN_2: u64 = 744261117;
-// 1 / ln 2 in units of 2^-26, rounded down and up.
+
+// 1 / ln 2 in units of 2^-26, rounded down.
 const INVERSE_DOWN: u64 = 96817625;
 
+// The same, rounded up.
 const INVERSE_UP: u64 = 96817626;
+
 // One less than the exponent's bias: the leading digit of the significand that is added to the exponent's field carries the missing one.
 const BIAS_BEFORE_CARRY: u64 = 126;
 

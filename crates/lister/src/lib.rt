@@ -12,10 +12,12 @@ ghost use Rattle.lister.specs.Output.{mostShown, tileOutput, listOutput,
 use alp::Answer;
 use tables::Checked;
 
-// How many records are printed at most, and the bytes of so many.
+// How many records are printed at most.
 const MOST_SHOWN: usize = 1600;
 
+// The bytes of so many records.
 const SHOWN_BYTES: usize = 64000;
+
 // Room for so many lines and the count's.
 const OUTPUT: usize = 129640;
 
