@@ -72,7 +72,7 @@ uint32_t uramsheg_join(const uint8_t *set, size_t set_length, size_t rows, size_
                        const uint8_t *list, size_t list_length, uint8_t *out, size_t out_length, uint64_t *value);
 
 /* The corrected sigma of a spot with these centre samples, this sigma and this polarity, in *corrected.
- * Refused (4; 7 where the spot has no size), it neither reads nor writes *corrected, which may be unset. */
+ * Refused (checked in the order 4, 7), it neither reads nor writes *corrected, which may be unset. */
 uint32_t uramsheg_correct(const uint8_t *set, size_t set_length, float sample0, float sample1, float sample2, float sample3,
                           float sigma, bool is_max, float *corrected);
 
@@ -81,7 +81,7 @@ uint32_t uramsheg_octave_count(size_t rows, size_t cols);
 
 /* Every second pixel of every second column of a level: (r, c) of `out` is (2r, 2c) of `level`. The new sides, half the old rounded down, or 0 by 0
  * where a side is under 2, go to *half_rows and *half_cols; floats of `out` past the result are kept.
- * Refused (1, 2, 6), it leaves `out` untouched, and neither reads nor writes *half_rows and *half_cols. Both may be unset. */
+ * Refused (checked in the order 1, 2, 6), it leaves `out` untouched, and neither reads nor writes *half_rows and *half_cols, which may be unset. */
 uint32_t uramsheg_downsample(size_t rows, size_t cols, const float *level, size_t level_length, float *out, size_t out_length,
                              uint64_t *half_rows, uint64_t *half_cols);
 

@@ -97,10 +97,6 @@ module _ (b : List ℕ) (th : Thresholds) (rows cols octave : ℕ) (l0 l1 l2 l3 
   abbrev checks : List Check
   checks = detectChecks (length l0) (length l1) (length l2) (length l3) rows cols octave s
 
-  -- two answers that the promise allows are equal, with their values and buffers
-  pub detect-face-only : (x y : Left) → x ≡ after → y ≡ after → x ≡ y
-  detect-face-only x y p q = p ∙ sym q
-
   set-said : goodRecord b ≡ false → saidAt checks 3 ≡ Bad BadSet
   unfolding saidAt detectChecks unless
   set-said e = rw (read-good b, e)

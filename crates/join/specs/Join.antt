@@ -34,7 +34,7 @@ firstBad rows cols b (suc n) i = cond (readable rows cols (recordAt b i)) (first
 abbrev pub badOf : ℕ → ℕ → List ℕ → ℕ
 badOf rows cols b = firstBad rows cols b (length b / spotWidth) 0
 
--- the join's checks in its order. 1: a side is too long; 4: the set is not good; 5: the length is no multiple of 40, with the whole record count;
+-- the join's checks in its order. 1: a side is too long; 4: the set is not good; 5: the length is no multiple of a record's width, with the whole record count;
 -- 5: a record is bad, with the first one's index; 6: the buffer is shorter than needed
 unfoldable pub joinChecks : Set → ℕ → ℕ → List ℕ → ℕ → List Check
 joinChecks s rows cols b room =

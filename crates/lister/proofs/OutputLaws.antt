@@ -150,9 +150,3 @@ module _ (b : List ℕ) where
       go Fine is e =
           list-found b _ is
           (detect-finds (setFrom b) (thresholdsFrom b) (rowsFrom b) (colsFrom b) (octaveFrom b) (levelFrom b 0) (levelFrom b 1) (levelFrom b 2) (levelFrom b 3) [] (laws.first-fine tileChecks e))
-
--- ---- what the promise settles
-
--- two outputs that the promise allows are equal
-pub list-only : (b out out' : List ℕ) (r r' : ℕ) → Begins out r (listOutput b) → Begins out' r' (listOutput b) → (r ≡ r') × (take r out ≡ take r' out')
-list-only b out out' r r' p q = (p .count ∙ sym (q .count), p .bytes ∙ sym (q .bytes))

@@ -16,6 +16,10 @@ use Rattle.refine.specs.declared.Spot.{Spot}
 use Rattle.refine.specs.declared.lend.Settled.{Settled}
 use Rattle.refine.specs.Refine.{indexOf, spatialOf}
 use Rattle.refine.specs.Lend.{lentOf}
+use Rattle.size.specs.declared.Statistic.{Statistic}
+use Rattle.size.specs.declared.Statistic.the-variants.{Value, Absent}
+use Rattle.size.specs.Profile.{statisticOf}
+use Rattle.size.specs.Correct.{geometryOf, betaOf, blendBetaOf, boundedOf, modelMoveOf}
 
 -- the set that a record holds; of zeros where the record is refused
 unfoldable pub held : List ℕ → Set
@@ -73,4 +77,33 @@ leavesOf s =
 
 -- the i-th number that the refinement leaves of a spot
 unfoldable pub refinePart : List ℕ → List Float → Spot → Float → ℕ → Float
-refinePart b k spot ratio i = leavesOf (lentOf (held b) ratio (cubicsOf k) spot) at i
+refinePart b k spot ratio i = leavesOf (lentOf (held b) ratio (nineFours k) spot) at i
+
+-- a statistic's number, which is never NaN; NaN where it is absent
+unfoldable pub numberOf : Statistic → Float
+numberOf (Value x) = x
+numberOf Absent = nan
+
+-- the statistic with this number, or none
+unfoldable pub givenOf : Bool → Float → Statistic
+givenOf present x = cond present (Value x) Absent
+
+-- the profile statistic of four samples
+unfoldable pub statisticPart : List ℕ → List Float → Float
+statisticPart b l = numberOf (statisticOf (held b .sigmas) l)
+
+-- the part of a step that a statistic allows
+unfoldable pub betaPart : List ℕ → Bool → Float → Float
+betaPart b present x = betaOf (geometryOf (held b)) (givenOf present x)
+
+-- the part of a step that four samples allow
+unfoldable pub blendPart : List ℕ → List Float → Float
+blendPart b l = blendBetaOf (geometryOf (held b)) (held b .sigmas) l
+
+-- the part of the raw step, held to the cap
+unfoldable pub boundedPart : List ℕ → Float → Float → Float
+boundedPart b beta raw = boundedOf (geometryOf (held b)) beta raw
+
+-- the move that the model proposes
+unfoldable pub modelPart : List ℕ → Float → Float → Float → Float → Float → Float
+modelPart b beta a derivative curvature bounded = modelMoveOf (geometryOf (held b)) beta a derivative curvature bounded

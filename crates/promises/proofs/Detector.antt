@@ -10,7 +10,7 @@ use contract.Monad.{Fun}
 use Rattle.tables.proofs.is_good as is-good
 use Rattle.tables.proofs.read_set as read-set
 use Rattle.tables.proofs.refusals.number_of as number-of
-use Rattle.tables.proofs.refusals.index_of as index-of
+use Rattle.tables.proofs.refusals.value_of as value-of
 use Rattle.alp.proofs.detect as detect
 use Rattle.join.proofs.join as join
 use Rattle.size.proofs.correct as correct
@@ -34,13 +34,13 @@ module _ {M : Type 1} (𝓤 : URA M) (H : Heap 𝓤) (A : Atoms 𝓤) (mem : Mem
   pub read-set-settled : Settles 𝓤 read-set.ended (read-set.clauses 𝓤 H A mem run)
   read-set-settled κs a g g' r r' ws ws' = one-answer 𝓤 _
 
-  -- ---- the number and the index of a refusal
+  -- ---- the number and the value of a refusal
 
   pub number-of-settled : Settles 𝓤 number-of.ended (number-of.clauses 𝓤 H A mem run)
-  number-of-settled κs a g g' r r' ws ws' = both-told 𝓤 (λ p q. (p .0 ∙ sym (q .0), refl))
+  number-of-settled κs a g g' r r' ws ws' = one-answer 𝓤 _
 
-  pub index-of-settled : Settles 𝓤 index-of.ended (index-of.clauses 𝓤 H A mem run)
-  index-of-settled κs a g g' r r' ws ws' = one-answer 𝓤 _
+  pub value-of-settled : Settles 𝓤 value-of.ended (value-of.clauses 𝓤 H A mem run)
+  value-of-settled κs a g g' r r' ws ws' = one-answer 𝓤 _
 
   -- ---- detection, the join, the correction
 
