@@ -27,7 +27,7 @@ use Rattle.pixel.specs.Gate.{sigmaOf, peakOf, gateBy}
 use Rattle.pixel.specs.Ring.{ringBy}
 use Rattle.pixel.specs.Verdict.{anchorOf, polarityOf, recordOf}
 use Rattle.pixel.specs.Rules.{cubicsAt, ownSamples, ownCubic}
-use Rattle.alp.specs.Level.{Within}
+use Rattle.samples.specs.Level.{Within}
 use Rattle.admission.specs.Rust.{ownShapeBy}
 use Rattle.admission.proofs.OnMap.{accepted-on-map}
 use Rattle.admission.proofs.Samples.{gate-curvature, places-finite}

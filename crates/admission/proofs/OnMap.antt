@@ -15,7 +15,7 @@ use Rattle.refine.proofs.RefineLaws.{accepted-displaced}
 use Rattle.record.specs.Readable.{onSide}
 use Rattle.pixel.specs.declared.Frame.{Frame}
 use Rattle.pixel.specs.Verdict.{anchorOf}
-use Rattle.alp.specs.Level.{Within}
+use Rattle.samples.specs.Level.{Within}
 use Rattle.admission.specs.Place.{OnMap}
 use Rattle.admission.proofs.Displaced.{displaced-on-side}
 

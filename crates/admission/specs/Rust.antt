@@ -21,7 +21,7 @@ use Rattle.pixel.specs.Gate.{sigmaOf, peakOf, gateBy}
 use Rattle.pixel.specs.Ring.{ringBy}
 use Rattle.pixel.specs.Verdict.{anchorOf, recordOf}
 use Rattle.pixel.specs.Rules.{cubicsAt, ownSamples, ownCubic}
-use Rattle.alp.specs.Level.{Maps, nineAt}
+use Rattle.samples.specs.Level.{Maps, nineAt}
 use Rattle.alp.specs.Due.{listed}
 use Rattle.zeros.specs.Choices.{Choices, allOurs}
 

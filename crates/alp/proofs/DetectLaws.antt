@@ -12,9 +12,10 @@ use Rattle.tables.specs.declared.Checked.the-variants.{Fine}
 use Rattle.tables.specs.Refusal.{firstOf}
 use Rattle.tables.proofs.RefusalLaws.{unless-fine}
 use Rattle.record.proofs.LayoutLaws.{lay-laid}
-use Rattle.alp.specs.Level.{Maps, Sized}
+use Rattle.samples.specs.Level.{Maps, Sized}
 use Rattle.alp.specs.Due.{due, Laid}
-use Rattle.alp.specs.Detect.{detectChecks, outcome, detected}
+use Rattle.checks.specs.Checks.{detectChecks}
+use Rattle.alp.specs.Detect.{outcome, detected}
 use Rattle.alp.specs.declared.Answer.the-variants.{Found}
 
 -- what no check refuses

@@ -12,7 +12,7 @@ use Rattle.pixel.specs.declared.Verdict.{Verdict}
 use Rattle.pixel.specs.declared.Verdict.the-variants.{Listed, Nothing}
 use Rattle.pixel.specs.Stands.{settledOf}
 use Rattle.pixel.proofs.StandsLaws.{settled-verdict, hidden}
-use Rattle.alp.specs.Level.{Maps, nineAt}
+use Rattle.samples.specs.Level.{Maps, nineAt}
 use Rattle.alp.specs.Inside.Marks.{standsAt, markOf}
 use Rattle.alp.specs.Due.{judgeOf, listed, pixelDue, rowDue, rowsDue, Laid}
 use Rattle.alp.proofs.MarksLaws.{mark-zero}

@@ -1,7 +1,4 @@
 -- What the proofs cite, and what detection's promise settles.
-pub mod LevelLaws
-pub mod ViewLaws
-pub mod ViewRows
 pub mod MarksLaws
 pub mod DueLaws
 pub mod DetectLaws

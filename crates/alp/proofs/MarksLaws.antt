@@ -21,9 +21,9 @@ use Rattle.pixel.specs.Verdict.{cubicsOf}
 use Rattle.pixel.specs.Stands.{ownsEither, ownOf, beatsCubic}
 use Rattle.pixel.specs.declared.Own.{Own}
 use Rattle.pixel.proofs.StandsLaws.{unowned-gates, stands-low, stands-high, beats-place}
-use Rattle.alp.specs.Level.{Maps, nineOf}
+use Rattle.samples.specs.Level.{Maps, nineOf}
 use Rattle.alp.specs.Inside.Marks.{standsAt, codeOf, markBy, markOf, heightOf, Marked, Column, Strip}
-use Rattle.alp.proofs.LevelLaws.{placed, length-nine, nine-place, nine-centre}
+use Rattle.samples.proofs.LevelLaws.{placed, length-nine, nine-place, nine-centre}
 
 -- ---- from samples
 

@@ -11,7 +11,7 @@ use Rattle.tables.specs.declared.Checked.the-variants.{Fine, Bad}
 use Rattle.record.specs.declared.Record.{Record}
 use Rattle.record.specs.Layout.{spotWidth, bytesOf, written}
 use Rattle.record.proofs.LayoutLaws.{length-laid, laid-first, laid-keeps}
-use Rattle.alp.specs.Level.{Maps, mapsOf}
+use Rattle.samples.specs.Level.{Maps, mapsOf}
 use Rattle.alp.specs.Due.{due}
 use Rattle.alp.specs.Detect.{Outcome, detected, detectOf}
 use Rattle.alp.specs.declared.Answer.the-variants.{Found}

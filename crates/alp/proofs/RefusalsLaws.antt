@@ -11,9 +11,10 @@ use Rattle.tables.specs.declared.Checked.{Checked}
 use Rattle.tables.specs.declared.Checked.the-variants.{Fine, Bad}
 use Rattle.tables.specs.Refusal.{Check, saidAt, First}
 use Rattle.tables.proofs.RefusalLaws as laws
-use Rattle.alp.specs.Level.{Maps, mapsOf}
+use Rattle.samples.specs.Level.{Maps, mapsOf}
 use Rattle.alp.specs.Due.{due}
-use Rattle.alp.specs.Detect.{detectChecks, Outcome, detected, detectOf}
+use Rattle.checks.specs.Checks.{detectChecks}
+use Rattle.alp.specs.Detect.{Outcome, detected, detectOf}
 use Rattle.alp.specs.declared.Answer.the-variants.{Found, Refused}
 use Rattle.alp.proofs.DetectLaws.{Passed, checks-passed}
 

@@ -1,30 +1,19 @@
 -- What detection answers, and what it leaves in the buffer, as one value of its input. Definitions only.
-use Prim.Native.Nat.{ℕ, _*_}
-use mathlib.Core.Bool.{not, _||_}
-use mathlib.Core.List.{List, [], _∷_}
+use Prim.Native.Nat.{ℕ}
+use mathlib.Core.List.{List}
 use lib.ListN.{length}
-use lib.Dec.{eqb}
 use lib.Ieee.{Float}
 use Rattle.tables.specs.declared.Set.{Set}
 use Rattle.tables.specs.declared.Thresholds.{Thresholds}
-use Rattle.tables.specs.declared.Refusal.the-variants.{Level}
 use Rattle.tables.specs.declared.Checked.{Checked}
 use Rattle.tables.specs.declared.Checked.the-variants.{Fine, Bad}
-use Rattle.tables.specs.Refusal.{Check, _when_, firstOf, sidesCheck, octaveCheck, setCheck}
+use Rattle.tables.specs.Refusal.{firstOf}
+use Rattle.checks.specs.Checks.{detectChecks}
 use Rattle.record.specs.Layout.{laid}
-use Rattle.alp.specs.Level.{Maps, mapsOf}
+use Rattle.samples.specs.Level.{Maps, mapsOf}
 use Rattle.alp.specs.Due.{due}
 use Rattle.alp.specs.declared.Answer.{Answer}
 use Rattle.alp.specs.declared.Answer.the-variants.{Found, Refused}
-
--- 2: one of four levels of n0 to n3 floats is not n long
-abbrev pub levelsCheck : ℕ → ℕ → ℕ → ℕ → ℕ → Check
-levelsCheck n0 n1 n2 n3 n = Level when (not (eqb n0 n) || (not (eqb n1 n) || (not (eqb n2 n) || not (eqb n3 n))))
-
--- detection's checks, in their order: the first that holds is answered
-unfoldable pub detectChecks : ℕ → ℕ → ℕ → ℕ → ℕ → ℕ → ℕ → Set → List Check
-detectChecks n0 n1 n2 n3 rows cols octave s =
-    sidesCheck rows cols ∷ levelsCheck n0 n1 n2 n3 (rows * cols) ∷ octaveCheck octave ∷ setCheck s ∷ []
 
 -- an answer, and the whole buffer after it
 pub record Outcome : Type 0 where

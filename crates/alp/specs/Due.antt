@@ -9,7 +9,7 @@ use Rattle.record.specs.Layout.{lay}
 use Rattle.pixel.specs.declared.Verdict.{Verdict}
 use Rattle.pixel.specs.declared.Verdict.the-variants.{Listed, Nothing}
 use Rattle.pixel.specs.Verdict.{verdictOf}
-use Rattle.alp.specs.Level.{Maps, nineAt}
+use Rattle.samples.specs.Level.{Maps, nineAt}
 
 -- the verdict on a pixel of the map at one polarity
 unfoldable pub judgeOf : Maps → ℕ → ℕ → Bool → Verdict

@@ -1,62 +1,16 @@
-// Detection over four levels: the loops over the judged pixels, the records they list, and the refusals.
+// Detection over four levels: the loops over the judged pixels, and the records they list.
 ghost use mathlib.Core.Path.{_≡_};
 ghost use Prim.Native.Nat.{_+_, _-_, _<_, _≤_, _^_};
 ghost use lib.ListN.{length};
-ghost use Rattle.tables.specs.Refusal.{firstOf};
-ghost use Rattle.alp.specs.Level.{mapsOf, Within, Sized};
+ghost use Rattle.samples.specs.Level.{mapsOf, Within, Sized};
 ghost use Rattle.alp.specs.Due.{listed, pixelDue, rowDue, due, Laid};
 ghost use Rattle.alp.specs.Inside.Marks.{markOf, Strip};
-ghost use Rattle.alp.specs.Detect.{detectChecks};
-use crate::level;
 use crate::marks;
 use pixel::Frame;
 use pixel::Verdict;
-use tables::Checked;
-use tables::Refusal;
+use samples::level;
 use tables::Set;
 use tables::Thresholds;
-
-// Of detection's checks, in their order, the first that holds.
-pub fn checked(
-    n0: usize,
-    n1: usize,
-    n2: usize,
-    n3: usize,
-    rows: usize,
-    cols: usize,
-    octave: usize,
-    set: Set,
-) -> Checked
-    ensures { λ r. ⌜ r ≡ firstOf (detectChecks n0 n1 n2 n3 rows cols octave set) ⌝ }
-{
-    let good = tables::is_good(set);
-    if 4096 < rows {
-        return Checked::Bad(Refusal::Size);
-    }
-    if 4096 < cols {
-        return Checked::Bad(Refusal::Size);
-    }
-    let n = rows * cols;
-    if n0 != n {
-        return Checked::Bad(Refusal::Level);
-    }
-    if n1 != n {
-        return Checked::Bad(Refusal::Level);
-    }
-    if n2 != n {
-        return Checked::Bad(Refusal::Level);
-    }
-    if n3 != n {
-        return Checked::Bad(Refusal::Level);
-    }
-    if 5 < octave {
-        return Checked::Bad(Refusal::Octave);
-    }
-    if !good {
-        return Checked::Bad(Refusal::BadSet);
-    }
-    Checked::Fine
-}
 
 // What a verdict lists goes to place n; answers the next place.
 fn emit(out: &mut [u8], n: usize, v: Verdict) -> usize

@@ -1,8 +1,6 @@
 // The detector's public face.
-mod level; // level.rt: the levels' samples
 mod marks; // marks.rt: the pixels that stand out
-mod candidates; // candidates.rt: the loops over the pixels, and the refusals
-pub mod view; // view.rt: a level as its pixels and its rows
+mod candidates; // candidates.rt: the loops over the pixels
 
 ghost use mathlib.Core.Path.{_≡_};
 ghost use Rattle.alp.specs.Detect.{outcome, detectOf};
@@ -10,6 +8,7 @@ pub use join::join;
 use pixel::Frame;
 pub use pyramid::downsample;
 pub use pyramid::octave_count;
+pub use samples::view;
 pub use size::correct;
 use tables::Checked;
 use tables::Refusal;
@@ -39,7 +38,7 @@ pub fn detect<'a>(
     ensures { λ r. ⌜ outcome r (now (out .exit))
         ≡ detectOf set thresholds rows cols octave (now (l0 .entry)) (now (l1 .entry)) (now (l2 .entry)) (now (l3 .entry)) (now (out .entry)) ⌝ }
 {
-    let check = candidates::checked(
+    let check = checks::checked(
         l0.len(),
         l1.len(),
         l2.len(),

@@ -7,12 +7,12 @@ ghost use Rattle.fit.specs.Band.{bandOf};
 ghost use Rattle.pixel.specs.Gate.{sigmaOf, peakOf};
 ghost use Rattle.pixel.specs.Ring.{beatsOf, ringOf};
 ghost use Rattle.pixel.specs.Verdict.{cubicsOf};
-ghost use Rattle.alp.specs.Level.{mapsOf, samplesOf, nineOf, Within, Sized};
+ghost use Rattle.samples.specs.Level.{mapsOf, samplesOf, nineOf, Within, Sized};
 ghost use Rattle.alp.specs.Inside.Marks.{codeOf, markBy, heightOf, Column, Marked, Strip};
-use crate::level;
 use fit::Band;
 use fit::Envelope;
 use pixel::Frame;
+use samples::level;
 use tables::Set;
 use tables::Thresholds;
 

@@ -19,7 +19,8 @@ use Rattle.tables.specs.declared.Checked.the-variants.{Fine, Bad}
 use Rattle.tables.specs.Set.{every, allSet, rising, good, blank, setOf, spareZero, goodRecord}
 use Rattle.tables.specs.Refusal.{number, Check, unless, saidAt, refusedSet, readSetOf}
 use Rattle.tables.proofs.SetLaws.{good-record-read, bad-record-refused}
-use Rattle.alp.specs.Detect.{detectChecks, Outcome, outcome, detectOf}
+use Rattle.checks.specs.Checks.{detectChecks}
+use Rattle.alp.specs.Detect.{Outcome, outcome, detectOf}
 use Rattle.alp.specs.declared.Answer.{Answer}
 use Rattle.alp.specs.declared.Answer.the-variants.{Found, Refused}
 use Rattle.alp.proofs.RefusalsLaws.{refused-first, first-answered}

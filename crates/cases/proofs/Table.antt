@@ -26,7 +26,7 @@ use Rattle.pyramid.specs.Pyramid.{octavesOf, octaveCountOf}
 use Rattle.pixel.specs.Gate.{sigmaOf, peakOf, strongOf, curvedOf, gateBy}
 use Rattle.pixel.specs.Ring.{allOf, beatsBy, ringBy}
 use Rattle.pixel.specs.Verdict.{cubicsOf, wholePlace, wholeOf, anchorOf, polarityOf, recordOf, admitOf, verdictBy}
-use Rattle.alp.specs.Level.{pixelAt, stencilOf, sampleAt, samplesOf, placesOf}
+use Rattle.samples.specs.Level.{pixelAt, stencilOf, sampleAt, samplesOf, placesOf}
 use Rattle.alp.specs.Due as dues
 use Rattle.cases.specs.Case.{Case, rootCase, logCase, valueCase, extremeCase, countCase, ofEnvelope, envelopeCase, ofCorrection, correctionCase}
 use Rattle.cases.specs.MapM.{zeros, put, levelM, mapM, bytesM, mapCase}

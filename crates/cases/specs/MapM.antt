@@ -6,7 +6,7 @@ use lib.Ieee.{Float, binary32, ofBits}
 use Rattle.float.specs.Num.{f0}
 use Rattle.tables.specs.SetT.{setT}
 use Rattle.record.specs.Layout.{bytesOf}
-use Rattle.alp.specs.Level.{Maps, mapsOf}
+use Rattle.samples.specs.Level.{Maps, mapsOf}
 use Rattle.alp.specs.Due as dues
 use Rattle.cases.specs.Case.{Case}
 

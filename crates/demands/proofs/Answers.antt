@@ -8,7 +8,7 @@ use Rattle.tables.specs.declared.Set.{Set}
 use Rattle.tables.specs.declared.Thresholds.{Thresholds}
 use Rattle.tables.specs.declared.Checked.{Checked}
 use Rattle.tables.specs.declared.Checked.the-variants.{Fine, Bad}
-use Rattle.alp.specs.Level.{Maps, mapsOf}
+use Rattle.samples.specs.Level.{Maps, mapsOf}
 use Rattle.alp.specs.Due.{due}
 use Rattle.alp.specs.Detect.{detected, detectOf}
 use Rattle.alp.specs.declared.Answer.the-variants.{Found}

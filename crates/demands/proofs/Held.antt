@@ -21,9 +21,9 @@ use Rattle.record.proofs.ReadableLaws.{readable-parts}
 use Rattle.pixel.specs.Gate.{sigmaOf, peakOf}
 use Rattle.pixel.specs.Verdict.{anchorOf, recordOf}
 use Rattle.pixel.specs.Rules.{cubicsAt, ownSamples}
-use Rattle.alp.specs.Level.{Maps, stencilOf, sampleAt, samplesOf, samplesAt, nineAt}
+use Rattle.samples.specs.Level.{Maps, stencilOf, sampleAt, samplesOf, samplesAt, nineAt}
 use Rattle.alp.specs.Due.{due}
-use Rattle.alp.proofs.LevelLaws.{area, nine-centre}
+use Rattle.samples.proofs.LevelLaws.{area, nine-centre}
 use Rattle.demands.specs.List.{Stands, AdmitsAt}
 use Rattle.demands.proofs.Listed.{list-is}
 use Rattle.demands.proofs.Accepted.{join-accepts}

@@ -21,7 +21,7 @@ use Rattle.record.specs.Readable.{readable}
 use Rattle.record.proofs.LayoutLaws.{length-written, laid-first}
 use Rattle.record.proofs.RoundTrip.{recordAt-laid}
 use Rattle.record.proofs.Converse.{same-bytes-same-record}
-use Rattle.alp.specs.Level.{Maps, mapsOf}
+use Rattle.samples.specs.Level.{Maps, mapsOf}
 use Rattle.alp.specs.Due.{due}
 use Rattle.alp.specs.Detect.{Outcome, detectOf}
 use Rattle.alp.specs.declared.Answer.the-variants.{Found}

@@ -11,7 +11,7 @@ use Rattle.record.specs.declared.Record.{Record}
 use Rattle.pixel.specs.declared.Verdict.{Verdict}
 use Rattle.pixel.specs.declared.Verdict.the-variants.{Listed, Nothing}
 use Rattle.pixel.specs.Verdict.{polarityOf}
-use Rattle.alp.specs.Level.{Maps}
+use Rattle.samples.specs.Level.{Maps}
 use Rattle.alp.specs.Due.{judgeOf, listed, pixelDue, rowDue, rowsDue, due}
 use Rattle.alp.proofs.DueLaws.{listed-short}
 use Rattle.demands.specs.List.{StandsAt, Stands, Judged, AdmitsAt, Admitted, Rising, Of, OnlyOne}

@@ -6,7 +6,7 @@ use mathlib.Core.List.{List}
 use lib.Ieee.{Float}
 use Rattle.float.specs.Small.{finite}
 use Rattle.fit.proofs.Finite.{sum-finite, difference-finite, product-finite}
-use Rattle.alp.specs.Level.{pixelAt, stencilOf, sampleAt}
+use Rattle.samples.specs.Level.{pixelAt, stencilOf, sampleAt}
 use Rattle.demands.specs.TwoMaps.{Cross}
 
 record Five (l r u d c : Float) : Type 0 where

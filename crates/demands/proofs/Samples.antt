@@ -13,7 +13,7 @@ use Rattle.tables.specs.declared.Set.{Set}
 use Rattle.tables.specs.declared.Thresholds.{Thresholds}
 use Rattle.pixel.specs.declared.Frame.{Frame}
 use Rattle.pixel.specs.Verdict.{wholePlace, wholeOf}
-use Rattle.alp.specs.Level.{Maps, mapsOf, samplesOf, samplesAt, placesOf, nineAt}
+use Rattle.samples.specs.Level.{Maps, mapsOf, samplesOf, samplesAt, placesOf, nineAt}
 use Rattle.demands.specs.TwoMaps.{of21, Same, finites, Cross}
 use Rattle.float.proofs.Bools.{both, all-four}
 use Rattle.demands.proofs.NotFinite.{sample-finite, sample-same}

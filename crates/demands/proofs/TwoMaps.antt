@@ -14,7 +14,7 @@ use Rattle.pixel.specs.declared.Frame.{Frame}
 use Rattle.pixel.specs.declared.Verdict.{Verdict}
 use Rattle.pixel.specs.declared.Verdict.the-variants.{Listed, Nothing}
 use Rattle.pixel.specs.Verdict.{wholeOf}
-use Rattle.alp.specs.Level.{Maps, mapsOf, nineAt}
+use Rattle.samples.specs.Level.{Maps, mapsOf, nineAt}
 use Rattle.alp.specs.Due.{judgeOf, listed, pixelDue, rowDue, rowsDue, due}
 use Rattle.demands.specs.List.{Judged, AdmitsAt}
 use Rattle.demands.specs.TwoMaps.{of21, clear, spared, keep, Same, Lossy}

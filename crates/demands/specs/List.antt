@@ -8,7 +8,7 @@ use Rattle.record.specs.declared.Record.{Record}
 use Rattle.pixel.specs.declared.Frame.{Frame}
 use Rattle.pixel.specs.Verdict.{polarityOf}
 use Rattle.pixel.specs.Rules.{Admits}
-use Rattle.alp.specs.Level.{Maps, Within, nineAt}
+use Rattle.samples.specs.Level.{Maps, Within, nineAt}
 
 -- the record r stands at the place i of the list, counted from 0
 unfoldable pub StandsAt : List Record → ℕ → Record → Type 0

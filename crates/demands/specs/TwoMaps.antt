@@ -8,7 +8,7 @@ use lib.Dec.{leb, eqb}
 use Rattle.float.specs.Small.{finite}
 use Rattle.record.specs.declared.Record.{Record}
 use Rattle.record.specs.Layout.{laid}
-use Rattle.alp.specs.Level.{Maps, pixelAt}
+use Rattle.samples.specs.Level.{Maps, pixelAt}
 use Rattle.alp.specs.Detect.{Outcome, outcome}
 use Rattle.alp.specs.declared.Answer.the-variants.{Found}
 

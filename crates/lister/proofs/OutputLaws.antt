@@ -16,7 +16,8 @@ use Rattle.tables.proofs.RefusalLaws as laws
 use Rattle.record.specs.declared.Record.{Record}
 use Rattle.record.specs.Layout.{spotWidth, bytesOf, written}
 use Rattle.alp.specs.Due.{due}
-use Rattle.alp.specs.Detect.{detectChecks, Outcome, outcome}
+use Rattle.checks.specs.Checks.{detectChecks}
+use Rattle.alp.specs.Detect.{Outcome, outcome}
 use Rattle.alp.specs.declared.Answer.{Answer}
 use Rattle.alp.specs.declared.Answer.the-variants.{Found, Refused}
 use Rattle.alp.proofs.RefusalsLaws.{first-answered as detect-refuses, none-found as detect-finds}

@@ -10,7 +10,7 @@ use Rattle.tables.specs.declared.Thresholds.{Thresholds}
 use Rattle.tables.specs.declared.Refusal.the-variants.{Size, Level}
 use Rattle.tables.specs.Refusal.{Check, _when_, readSetOf}
 use Rattle.words.specs.Words.{wordFrom, floatFrom, floatsAt}
-use Rattle.alp.specs.Level.{Maps, mapsOf}
+use Rattle.samples.specs.Level.{Maps, mapsOf}
 use Rattle.alp.specs.Detect.{Outcome, detectOf}
 
 -- the set, in the first 528 bytes

@@ -16,12 +16,12 @@ use Rattle.join.proofs.join as join
 use Rattle.size.proofs.correct as correct
 use Rattle.pyramid.proofs.octave_count as octave-count
 use Rattle.pyramid.proofs.downsample as downsample
-use Rattle.alp.proofs.view.pixel_at as pixel-at
-use Rattle.alp.proofs.view.sample_at as sample-at
-use Rattle.alp.proofs.view.view_of as view-of
-use Rattle.alp.proofs.view.pixel_in as pixel-in
-use Rattle.alp.proofs.view.response_in as response-in
-use Rattle.alp.proofs.view.response_of as response-of
+use Rattle.samples.proofs.view.pixel_at as pixel-at
+use Rattle.samples.proofs.view.sample_at as sample-at
+use Rattle.samples.proofs.view.view_of as view-of
+use Rattle.samples.proofs.view.pixel_in as pixel-in
+use Rattle.samples.proofs.view.response_in as response-in
+use Rattle.samples.proofs.view.response_of as response-of
 use Rattle.promises.specs.Settles.{Settles}
 use Rattle.promises.proofs.Facts.{both-told, one-value, one-answer, untouched}
 

@@ -9,7 +9,7 @@ use lib.Ieee.{Float}
 use Rattle.float.specs.Num.{f0}
 use Rattle.record.specs.declared.Record.{Record}
 use Rattle.pixel.specs.declared.Verdict.{Verdict}
-use Rattle.alp.specs.Level.{Maps, nineAt}
+use Rattle.samples.specs.Level.{Maps, nineAt}
 use Rattle.alp.specs.Due as Due
 use Rattle.zeros.specs.Alike.{RecordNear, VerdictNear, nothing, listed, RecordsNear, none, more, withPeak, peakless}
 use Rattle.zeros.specs.Choices.{Choices, AllAllowed, allOurs, judgeBy, pixelDueBy, rowDueBy, rowsDueBy, dueBy}

@@ -6,7 +6,7 @@ use Rattle.record.specs.declared.Record.{Record}
 use Rattle.fit.specs.Prims.{Prims, Allowed, ours}
 use Rattle.pixel.specs.declared.Verdict.{Verdict}
 use Rattle.pixel.specs.Verdict.{verdictBy}
-use Rattle.alp.specs.Level.{Maps, nineAt}
+use Rattle.samples.specs.Level.{Maps, nineAt}
 use Rattle.alp.specs.Due.{listed}
 
 -- the choices at the i-th of the nine places of the pixel (row, col), at a polarity

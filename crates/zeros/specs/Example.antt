@@ -11,7 +11,7 @@ use Rattle.tables.specs.declared.Set.{Set}
 use Rattle.tables.specs.declared.Thresholds.{Thresholds}
 use Rattle.tables.specs.SetT.{setT}
 use Rattle.record.specs.Layout.{bytesOf}
-use Rattle.alp.specs.Level.{Maps, mapsOf}
+use Rattle.samples.specs.Level.{Maps, mapsOf}
 use Rattle.zeros.specs.Choices.{Choices, dueBy}
 
 -- a zero turned to -0

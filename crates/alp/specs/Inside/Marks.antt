@@ -8,7 +8,7 @@ use lib.ListN.{length, getD}
 use lib.Ieee.{Float}
 use Rattle.tables.specs.declared.Thresholds.{Thresholds}
 use Rattle.pixel.specs.Stands.{standsOf}
-use Rattle.alp.specs.Level.{Maps, nineAt}
+use Rattle.samples.specs.Level.{Maps, nineAt}
 
 -- a pixel of the map stands out at a polarity
 abbrev pub standsAt : Maps → ℕ → ℕ → Bool → Bool

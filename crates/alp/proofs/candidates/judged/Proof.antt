@@ -2,7 +2,7 @@
 use mathlib.Core.Bool.{true, false}
 use mathlib.Core.Path.{_≡_, _∙_}
 use native.Mathlib.Omega.{arith}
-use Rattle.alp.specs.Level.{mapsOf}
+use Rattle.samples.specs.Level.{mapsOf}
 use Rattle.alp.specs.Due.{judgeOf, pixelDue}
 use Rattle.alp.proofs.MarksLaws.{mark-low, mark-high}
 use Rattle.alp.proofs.DueLaws.{laid-append, listed-short, settled-judged}

@@ -1,6 +1,6 @@
 -- `candidates::pixel` meets its contract: a pixel that stands out at neither polarity lists nothing.
 use mathlib.Core.Path.{sym, _∙_}
-use Rattle.alp.specs.Level.{mapsOf}
+use Rattle.samples.specs.Level.{mapsOf}
 use Rattle.alp.proofs.DueLaws.{laid-none, nothing-stands}
 use borrow.Author.Needs.{needs}
 use Rattle.alp.proofs.candidates.pixel.Statement.{statement}

@@ -3,7 +3,7 @@ use native.Mathlib.Numerals.{add-one}
 use native.Mathlib.Omega.{arith}
 use mathlib.Core.Path.{_≡_}
 use Prim.Native.Nat.{_+_, _≤_, _-_}
-use Rattle.alp.specs.Level.{mapsOf}
+use Rattle.samples.specs.Level.{mapsOf}
 use Rattle.alp.specs.Due.{Laid, rowDue}
 use Rattle.alp.proofs.DueLaws.{laid-none, laid-append, laid-length, rowDue-short}
 use Rattle.alp.proofs.MarksLaws.{strip-mark}

@@ -4,7 +4,7 @@ use native.Mathlib.Omega.{arith}
 use mathlib.Core.Path.{_≡_}
 use Prim.Native.Nat.{ℕ, _%_, _≤_, _<_, _-_}
 use lib.ListN.{length, length-replicate}
-use Rattle.alp.specs.Level.{mapsOf}
+use Rattle.samples.specs.Level.{mapsOf}
 use Rattle.alp.specs.Inside.Marks.{Strip}
 use Rattle.alp.specs.Due.{Laid, rowsDue, due}
 use Rattle.alp.proofs.DueLaws.{laid-none, laid-append, laid-length, rowsDue-short}

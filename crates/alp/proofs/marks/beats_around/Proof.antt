@@ -9,7 +9,7 @@ use borrow.Author.Tests.{not-true, not-false}
 use Rattle.pixel.specs.Ring.{beatsOf, ringBy}
 use Rattle.pixel.specs.Verdict.{cubicsOf}
 use Rattle.pixel.proofs.RingLaws.{all-true, all-false}
-use Rattle.alp.specs.Level.{samplesOf, nineOf}
+use Rattle.samples.specs.Level.{samplesOf, nineOf}
 use Rattle.alp.proofs.marks.beats_around.Statement.{statement}
 use Rattle.alp.proofs.marks.beats_around.Tie as tie
 

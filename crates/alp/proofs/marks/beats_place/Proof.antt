@@ -2,8 +2,8 @@
 use mathlib.Core.Path.{sym}
 use borrow.Author.Tests.{eq-eqb, ne-eqb}
 use Rattle.pixel.proofs.StandsLaws.{beats-itself}
-use Rattle.alp.specs.Level.{samplesOf}
-use Rattle.alp.proofs.LevelLaws.{within-place}
+use Rattle.samples.specs.Level.{samplesOf}
+use Rattle.samples.proofs.LevelLaws.{within-place}
 use Rattle.alp.proofs.MarksLaws.{beats-asked}
 use borrow.Author.Needs.{needs}
 use Rattle.alp.proofs.marks.beats_place.Statement.{statement}

@@ -3,8 +3,8 @@ use mathlib.Core.Bool.{false}
 use mathlib.Core.Path.{_≡_}
 use borrow.Author.Tests.{not-true}
 use Rattle.pixel.specs.Stands.{ownsEither}
-use Rattle.alp.specs.Level.{samplesOf}
-use Rattle.alp.proofs.LevelLaws.{within-less}
+use Rattle.samples.specs.Level.{samplesOf}
+use Rattle.samples.proofs.LevelLaws.{within-less}
 use Rattle.alp.proofs.MarksLaws.{unowned-mark, failed-mark, mark-by}
 use borrow.Author.Needs.{needs}
 use Rattle.alp.proofs.marks.mark.Statement.{statement}

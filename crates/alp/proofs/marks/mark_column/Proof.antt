@@ -2,7 +2,7 @@
 use mathlib.Core.Path.{_≡_}
 use Prim.Native.Nat.{_≤_, _-_}
 use native.Mathlib.Omega.{arith}
-use Rattle.alp.specs.Level.{mapsOf}
+use Rattle.samples.specs.Level.{mapsOf}
 use Rattle.alp.specs.Inside.Marks.{Column}
 use Rattle.alp.proofs.MarksLaws.{column-none, column-more}
 use Rattle.alp.proofs.marks.mark_column.Statement.{statement}

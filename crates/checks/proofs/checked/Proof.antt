@@ -1,0 +1,57 @@
+-- `checked` meets its contract: each return follows from the tests on the way to it.
+use native.Mathlib.Nat.{mul-le-mul}
+use native.Mathlib.Omega.{arith}
+use mathlib.Core.Path.{sym, _∙_}
+use borrow.Author.Tests.{lt-ltb, le-ltb, not-true, not-false}
+use Rattle.tables.specs.Refusal.{unless, firstOf}
+use Rattle.tables.proofs.RefusalLaws.{sides-most}
+use Rattle.checks.specs.Checks.{detectChecks}
+use borrow.Author.Needs.{needs}
+use Rattle.checks.proofs.checked.Statement.{statement}
+use Rattle.checks.proofs.checked.Tie as tie
+
+is-good-requires : tie.Need-is-good-requires
+is-good-requires c κs = search needs
+
+sides-off-requires : tie.Need-sides-off-requires
+sides-off-requires c κs = search needs
+
+returns : tie.Need-returns
+unfolding detectChecks firstOf unless
+returns c = rw (← c .before .sides-off .ensures, c .if1 .taken)
+
+mul-levels-off : tie.Need-mul-levels-off
+mul-levels-off c = let most = sides-most (c .before .before .before .args .rows) (c .before .before .before .args .cols) (sym (c .before .sides-off .ensures) ∙ c .if1 .left) in omega (arith, mul-le-mul (most .0) (most .1))
+
+levels-off-requires : tie.Need-levels-off-requires
+levels-off-requires c κs = search needs
+
+returns-2 : tie.Need-returns-2
+unfolding detectChecks firstOf unless
+returns-2 c = rw (← c .before .before .before .sides-off .ensures, c .before .before .if1 .left, ← c .before .levels-off .ensures, c .if2 .taken)
+
+returns-3 : tie.Need-returns-3
+unfolding detectChecks firstOf unless
+returns-3 c = rw (← c .before .before .before .before .sides-off .ensures, c .before .before .before .if1 .left, ← c .before .before .levels-off .ensures, c .before .if2 .left, lt-ltb _ _ (c .if3 .taken))
+
+returns-4 : tie.Need-returns-4
+unfolding detectChecks firstOf unless
+returns-4 c = rw (← c .before .before .before .before .before .before .is-good .ensures, ← c .before .before .before .before .before .sides-off .ensures, c .before .before .before .before .if1 .left, ← c .before .before .before .levels-off .ensures, c .before .before .if2 .left, le-ltb _ _ (c .before .if3 .left), not-true (c .before .before .before .before .before .before .is-good .result) (c .if4 .taken))
+
+returns-5 : tie.Need-returns-5
+unfolding detectChecks firstOf unless
+returns-5 c = rw (← c .before .before .before .before .before .before .is-good .ensures, ← c .before .before .before .before .before .sides-off .ensures, c .before .before .before .before .if1 .left, ← c .before .before .before .levels-off .ensures, c .before .before .if2 .left, le-ltb _ _ (c .before .if3 .left), not-false (c .before .before .before .before .before .before .is-good .result) (c .if4 .left))
+
+pub checked-spec : {M : Type 1} → statement M
+checked-spec =
+    tie.close
+    (tie.spec
+    is-good-requires
+    sides-off-requires
+    returns
+    mul-levels-off
+    levels-off-requires
+    returns-2
+    returns-3
+    returns-4
+    returns-5)

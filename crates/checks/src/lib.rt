@@ -1,0 +1,50 @@
+// Detection's checks: sides, levels, octave and set, in their order.
+ghost use mathlib.Core.Path.{_≡_};
+ghost use Rattle.tables.specs.Refusal.{firstOf, sidesCheck};
+ghost use Rattle.checks.specs.Checks.{levelsCheck, detectChecks};
+use tables::Checked;
+use tables::Refusal;
+use tables::Set;
+
+// Whether a side is too long.
+fn sides_off(rows: usize, cols: usize) -> bool
+    ensures { λ r. ⌜ r ≡ sidesCheck rows cols .holds ⌝ }
+{
+    (4096 < rows) | (4096 < cols)
+}
+
+// Whether one of four levels of n0 to n3 floats is not n long.
+fn levels_off(n0: usize, n1: usize, n2: usize, n3: usize, n: usize) -> bool
+    ensures { λ r. ⌜ r ≡ levelsCheck n0 n1 n2 n3 n .holds ⌝ }
+{
+    (n0 != n) | ((n1 != n) | ((n2 != n) | (n3 != n)))
+}
+
+// Of detection's checks, in their order, the first that holds.
+pub fn checked(
+    n0: usize,
+    n1: usize,
+    n2: usize,
+    n3: usize,
+    rows: usize,
+    cols: usize,
+    octave: usize,
+    set: Set,
+) -> Checked
+    ensures { λ r. ⌜ r ≡ firstOf (detectChecks n0 n1 n2 n3 rows cols octave set) ⌝ }
+{
+    let good = tables::is_good(set);
+    if sides_off(rows, cols) {
+        return Checked::Bad(Refusal::Size);
+    }
+    if levels_off(n0, n1, n2, n3, rows * cols) {
+        return Checked::Bad(Refusal::Level);
+    }
+    if 5 < octave {
+        return Checked::Bad(Refusal::Octave);
+    }
+    if !good {
+        return Checked::Bad(Refusal::BadSet);
+    }
+    Checked::Fine
+}

@@ -1,0 +1,4 @@
+-- Laws of levels, their samples and views.
+pub mod LevelLaws
+pub mod ViewLaws
+pub mod ViewRows

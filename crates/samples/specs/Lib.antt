@@ -1,0 +1,2 @@
+-- Levels and their samples. The public promises cite these.
+pub mod Level
