@@ -48,13 +48,14 @@ enum {
     URAMSHEG_REFUSED_SET = 4,     /* the set record is not 528 bytes long or not good */
     URAMSHEG_REFUSED_RECORDS = 5, /* the list is no whole number of records (*value is how many are whole), or holds a bad one (*value is its index) */
     URAMSHEG_REFUSED_ROOM = 6,    /* the output is shorter than needed */
-    URAMSHEG_REFUSED_NO_SIZE = 7  /* the spot has no size */
+    URAMSHEG_REFUSED_NO_SIZE = 7, /* the spot has no size */
+    URAMSHEG_REFUSED_THRESHOLDS = 8 /* one of the five thresholds is a NaN */
 };
 
 /* Lists the spots of four levels in `out`, by rising order key, at one key the minimum before the maximum.
  * Answers 0 and the number of spots in *value; `out` then begins with as many whole records as fit, and its later bytes are kept. A short `out` is no
- * refusal: *value is the full number all the same. Any thresholds are allowed, NaN too.
- * Refused (checked in the order 1, 2, 3, 4), it answers the number, *value is 0, and `out` is untouched. */
+ * refusal: *value is the full number all the same. A threshold may be infinite, and the window's low above its high.
+ * Refused (checked in the order 1, 2, 3, 8, 4), it answers the number, *value is 0, and `out` is untouched. */
 uint32_t uramsheg_detect(const uint8_t *set, size_t set_length,
                          float peak_threshold, float sigma_threshold, float curvature_ratio, float window_low, float window_high,
                          size_t rows, size_t cols, size_t octave,

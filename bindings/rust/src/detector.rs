@@ -65,7 +65,7 @@ mod raw {
     }
 }
 
-/// What a spot must pass. Any float is allowed, NaN too.
+/// What a spot must pass. A NaN is refused; infinities, and a window whose low is above its high, are allowed.
 #[derive(Clone, Copy, Debug, PartialEq)]
 pub struct Thresholds {
     pub peak: f32,
@@ -75,6 +75,19 @@ pub struct Thresholds {
     /// The closed window of sigma.
     pub low: f32,
     pub high: f32,
+}
+
+impl Thresholds {
+    /// A refusal of these thresholds says which of them are NaN; any other stays as it is.
+    fn told(self, refusal: Refusal) -> Refusal {
+        let all = [self.peak, self.sigma, self.ratio, self.low, self.high];
+        match refusal {
+            Refusal::Thresholds { .. } => Refusal::Thresholds {
+                nan: all.map(f32::is_nan),
+            },
+            other => other,
+        }
+    }
 }
 
 /// Four blurred levels of one map: each rows * cols floats by columns, pixel (row, col) at col * rows + row.
@@ -131,7 +144,7 @@ pub fn detect(
             &mut value,
         )
     };
-    done(number, value as usize, value as usize)
+    done(number, value as usize, value as usize).map_err(|refusal| thresholds.told(refusal))
 }
 
 /// Sizes the records of a list found on a map of rows by cols, 52 bytes each, in the list's order. Answers their number. Later bytes are kept.

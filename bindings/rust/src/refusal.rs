@@ -2,7 +2,7 @@
 
 use std::fmt;
 
-/// Why a call was refused. Of the call's checks, in its order, the first that holds is answered: detection checks 1, 2, 3, 4; the join 1, 4, 5 for the
+/// Why a call was refused. Of the call's checks, in its order, the first that holds is answered: detection checks 1, 2, 3, 8, 4; the join 1, 4, 5 for the
 /// list's length, 5 for a record, 6; correction 4, 7; halving a level 1, 2, 6.
 #[derive(Clone, Copy, Debug, PartialEq, Eq)]
 pub enum Refusal {
@@ -20,10 +20,16 @@ pub enum Refusal {
     Room,
     /// 7: the spot has no size.
     NoSize,
+    /// 8: a threshold is not a number. `nan` tells which of peak, sigma, ratio, low and high are NaN.
+    Thresholds { nan: [bool; 5] },
 }
 
+/// The thresholds' names, in their order.
+const NAMES: [&str; 5] = ["peak", "sigma", "ratio", "low", "high"];
+
 impl Refusal {
-    /// The refusal with a number and the value that goes with it, as the C functions answer them; None for a number that is none of theirs.
+    /// The refusal with a number and the value that goes with it, as the C functions answer them; None for a number that is none of theirs. Which
+    /// threshold is NaN they do not say: `detect` sees it by those it was given.
     pub fn from_number(number: u32, value: usize) -> Option<Refusal> {
         Some(match number {
             1 => Refusal::Size,
@@ -33,6 +39,7 @@ impl Refusal {
             5 => Refusal::Records { index: value },
             6 => Refusal::Room,
             7 => Refusal::NoSize,
+            8 => Refusal::Thresholds { nan: [false; 5] },
             _ => return None,
         })
     }
@@ -46,6 +53,7 @@ impl Refusal {
             Refusal::Records { .. } => 5,
             Refusal::Room => 6,
             Refusal::NoSize => 7,
+            Refusal::Thresholds { .. } => 8,
         }
     }
 }
@@ -67,6 +75,16 @@ impl fmt::Display for Refusal {
             ),
             Refusal::Room => write!(f, "the output is too short: lend a longer one"),
             Refusal::NoSize => write!(f, "this spot has no size"),
+            Refusal::Thresholds { nan } => {
+                let named = NAMES.iter().zip(nan).filter(|named| *named.1);
+                let names: Vec<&str> = named.map(|named| *named.0).collect();
+                let colon = if names.is_empty() { "" } else { ": " };
+                write!(
+                    f,
+                    "a threshold is not a number{colon}{}; a blank in a sheet reads as NaN",
+                    names.join(", ")
+                )
+            }
         }
     }
 }

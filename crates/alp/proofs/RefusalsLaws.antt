@@ -43,7 +43,7 @@ module _ (s : Set) (th : Thresholds) (rows cols octave : ℕ) (l0 l1 l2 l3 : Lis
 
   -- the checks of this call
   abbrev checks : List Check
-  checks = detectChecks (length l0) (length l1) (length l2) (length l3) rows cols octave s
+  checks = detectChecks (length l0) (length l1) (length l2) (length l3) rows cols octave th s
 
   abbrev after : Outcome
   after = detectOf s th rows cols octave l0 l1 l2 l3 out
@@ -68,10 +68,10 @@ module _ (s : Set) (th : Thresholds) (rows cols octave : ℕ) (l0 l1 l2 l3 : Lis
   unfolding detectOf
   found-none n e = laws.first-fine checks (answer-found _ maps out n e)
 
-  -- its sides, levels and octave are then what the checks ask for
-  pub found-passed : (n : ℕ) → after .answer ≡ Found n → Passed (length l0) (length l1) (length l2) (length l3) rows cols octave
+  -- its sides, levels, octave and thresholds are then what the checks ask for
+  pub found-passed : (n : ℕ) → after .answer ≡ Found n → Passed (length l0) (length l1) (length l2) (length l3) rows cols octave th
   unfolding detectOf
-  found-passed n e = checks-passed _ _ _ _ _ _ _ s (answer-found _ maps out n e)
+  found-passed n e = checks-passed _ _ _ _ _ _ _ th s (answer-found _ maps out n e)
 
   -- and where no check holds, the call answers Found, with the count of the whole list
   pub none-found : ((k : ℕ) → saidAt checks k ≡ Fine) → after .answer ≡ Found (length (due maps))

@@ -32,5 +32,5 @@ detected Fine m out = outcome (Found (length (due m))) (laid (due m) out)
 -- the whole of detection
 unfoldable pub detectOf : Set → Thresholds → ℕ → ℕ → ℕ → List Float → List Float → List Float → List Float → List ℕ → Outcome
 detectOf s th rows cols octave l0 l1 l2 l3 out =
-    detected (firstOf (detectChecks (length l0) (length l1) (length l2) (length l3) rows cols octave s))
+    detected (firstOf (detectChecks (length l0) (length l1) (length l2) (length l3) rows cols octave th s))
     (mapsOf l0 l1 l2 l3 (record { rows = rows; cols = cols; octave = octave }) s th) out

@@ -46,6 +46,7 @@ pub fn detect<'a>(
         rows,
         cols,
         octave,
+        thresholds,
         set,
     );
     match check {

@@ -1,10 +1,11 @@
-// Detection's checks: sides, levels, octave and set, in their order.
+// Detection's checks: sides, levels, octave, thresholds and set, in their order.
 ghost use mathlib.Core.Path.{_≡_};
 ghost use Rattle.tables.specs.Refusal.{firstOf, sidesCheck};
 ghost use Rattle.checks.specs.Checks.{levelsCheck, detectChecks};
 use tables::Checked;
 use tables::Refusal;
 use tables::Set;
+use tables::Thresholds;
 
 // Whether a side is too long.
 fn sides_off(rows: usize, cols: usize) -> bool
@@ -29,10 +30,12 @@ pub fn checked(
     rows: usize,
     cols: usize,
     octave: usize,
+    thresholds: Thresholds,
     set: Set,
 ) -> Checked
-    ensures { λ r. ⌜ r ≡ firstOf (detectChecks n0 n1 n2 n3 rows cols octave set) ⌝ }
+    ensures { λ r. ⌜ r ≡ firstOf (detectChecks n0 n1 n2 n3 rows cols octave thresholds set) ⌝ }
 {
+    let lost = tables::has_nan(thresholds);
     let good = tables::is_good(set);
     if sides_off(rows, cols) {
         return Checked::Bad(Refusal::Size);
@@ -42,6 +45,9 @@ pub fn checked(
     }
     if 5 < octave {
         return Checked::Bad(Refusal::Octave);
+    }
+    if lost {
+        return Checked::Bad(Refusal::Thresholds);
     }
     if !good {
         return Checked::Bad(Refusal::BadSet);

@@ -124,7 +124,7 @@ module _ (b : List ℕ) where
   -- detection's checks of what the input holds
   abbrev tileChecks : List Check
   tileChecks =
-      detectChecks (length (levelFrom b 0)) (length (levelFrom b 1)) (length (levelFrom b 2)) (length (levelFrom b 3)) (rowsFrom b) (colsFrom b) (octaveFrom b) (setFrom b)
+      detectChecks (length (levelFrom b 0)) (length (levelFrom b 1)) (length (levelFrom b 2)) (length (levelFrom b 3)) (rowsFrom b) (colsFrom b) (octaveFrom b) (thresholdsFrom b) (setFrom b)
 
   -- all checks of the list program, in their order
   abbrev allChecks : List Check

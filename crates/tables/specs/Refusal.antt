@@ -4,12 +4,14 @@ use mathlib.Core.List.{List, [], _∷_}
 use mathlib.Core.Bool.{Bool, true, false, cond, not, _||_}
 use mathlib.Core.Path.{_≡_}
 use lib.Dec.{ltb}
+use lib.Ieee.{isNan}
 use Rattle.tables.specs.declared.Refusal.{Refusal}
-use Rattle.tables.specs.declared.Refusal.the-variants.{Size, Level, Octave, BadSet, Records, Room, NoSize}
+use Rattle.tables.specs.declared.Refusal.the-variants.{Size, Level, Octave, BadSet, Records, Room, NoSize, Thresholds}
 use Rattle.tables.specs.declared.Checked.{Checked}
 use Rattle.tables.specs.declared.Checked.the-variants.{Fine, Bad}
 use Rattle.tables.specs.declared.SetRead.{SetRead}
 use Rattle.tables.specs.declared.Set.{Set}
+use Rattle.tables.specs.declared.Thresholds as limits
 use Rattle.tables.specs.Set.{good, setOf, goodRecord, blank}
 
 -- the number of a refusal
@@ -21,6 +23,7 @@ number BadSet = 4
 number (Records i) = 5
 number Room = 6
 number NoSize = 7
+number Thresholds = 8
 
 -- the value that goes with it: a bad record's index, else 0
 unfoldable pub value : Refusal → ℕ
@@ -31,6 +34,7 @@ value Octave = 0
 value BadSet = 0
 value Room = 0
 value NoSize = 0
+value Thresholds = 0
 
 -- refuse r where the test holds, and look further otherwise
 unfoldable pub unless : Bool → Refusal → Checked → Checked
@@ -79,6 +83,14 @@ sidesCheck rows cols = Size when (ltb mostSide rows || ltb mostSide cols)
 -- 3: the octave is above 5
 abbrev pub octaveCheck : ℕ → Check
 octaveCheck octave = Octave when ltb 5 octave
+
+-- one of the five thresholds is a NaN, of any pattern
+unfoldable pub anyNan : limits.Thresholds → Bool
+anyNan t = isNan (t .peak) || isNan (t .sigma) || isNan (t .ratio) || isNan (t .low) || isNan (t .high)
+
+-- 8: a NaN among the thresholds
+abbrev pub thresholdsCheck : limits.Thresholds → Check
+thresholdsCheck t = Thresholds when anyNan t
 
 -- 4: the set is not good
 abbrev pub setCheck : Set → Check

@@ -1,7 +1,7 @@
-// The set of tables and the thresholds, by value; when a set is good; its reader from a record of 528 bytes.
+// The set of tables and the thresholds, by value; when a set is good, and whether a threshold is no number; a set's reader from a record of 528 bytes.
 ghost use mathlib.Core.Path.{_≡_};
 ghost use Rattle.tables.specs.Set.{good};
-ghost use Rattle.tables.specs.Refusal.{readSetOf};
+ghost use Rattle.tables.specs.Refusal.{anyNan, readSetOf};
 
 mod good;
 mod reader;
@@ -19,7 +19,7 @@ pub struct Set {
     pub order: [u8; 9],
 }
 
-// What a spot must pass: any float is allowed, NaN too.
+// What a spot must pass: an entry refuses a NaN among them; infinities and a window from high to low are allowed.
 pub struct Thresholds {
     pub peak: f32,
     pub sigma: f32,
@@ -37,6 +37,7 @@ pub enum Refusal {
     Records(usize),
     Room,
     NoSize,
+    Thresholds,
 }
 
 // The outcome of a check.
@@ -59,6 +60,17 @@ pub fn is_good(s: Set) -> bool
         & good::is_rising(s.sigmas)
         & !(s.numbers[10] < 0.0)
         & good::all_under(&s.order, 9)
+}
+
+// Whether one of the five thresholds is a NaN.
+pub fn has_nan(t: Thresholds) -> bool
+    ensures { λ r. ⌜ r ≡ anyNan t ⌝ }
+{
+    (t.peak != t.peak)
+        | (t.sigma != t.sigma)
+        | (t.ratio != t.ratio)
+        | (t.low != t.low)
+        | (t.high != t.high)
 }
 
 // The set that a record holds, or the refusal of the record.

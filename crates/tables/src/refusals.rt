@@ -15,6 +15,7 @@ pub fn number_of(why: Refusal) -> u32
         Refusal::Records(_) => 5,
         Refusal::Room => 6,
         Refusal::NoSize => 7,
+        Refusal::Thresholds => 8,
     }
 }
 
@@ -30,5 +31,6 @@ pub fn value_of(why: Refusal) -> u64
         Refusal::BadSet => 0,
         Refusal::Room => 0,
         Refusal::NoSize => 0,
+        Refusal::Thresholds => 0,
     }
 }

@@ -1,6 +1,7 @@
 //! The families of cases: each case made from its family, a seed and a number.
 
 use crate::case::{Case, Scene};
+use crate::limits;
 use crate::maps;
 use crate::mirrored;
 use crate::overshoot;
@@ -12,7 +13,7 @@ use crate::turning;
 use crate::words::{self, FUNCTIONS};
 
 /// The families of cases. `inner` counts through the inner functions.
-pub const FAMILIES: [&str; 19] = [
+pub const FAMILIES: [&str; 21] = [
     "list",
     "detect",
     "join",
@@ -32,6 +33,8 @@ pub const FAMILIES: [&str; 19] = [
     "cancelling",
     "inflected",
     "widest",
+    "blanks",
+    "limits",
 ];
 
 /// The case of a family with the given seed and number.
@@ -54,6 +57,8 @@ pub fn expand(family: &str, seed: u64, number: usize) -> Case {
         },
         "wide" => wide(random, number),
         "widest" => widest(random),
+        "blanks" => limits::blank(random, number),
+        "limits" => limits::odd(random, number),
         "overshoot" => overshoot::correction(random),
         "mirrored" => mirrored::correction(random),
         "cancelling" => rounding::cancelling(random),
@@ -253,7 +258,7 @@ fn list(random: &mut Random, number: usize) -> Case {
 }
 
 /// A scene's input with a wrong length, side or spare byte of the set.
-fn damaged_input(random: &mut Random, scene: &Scene, [long, size, bad]: [bool; 3]) -> Vec<u8> {
+pub(crate) fn damaged_input(random: &mut Random, scene: &Scene, [long, size, bad]: [bool; 3]) -> Vec<u8> {
     let mut input = scene.input();
     if bad && random.once_in(4) {
         input[..525].copy_from_slice(&Set::t().record()[..525]);
@@ -282,13 +287,39 @@ fn damaged_input(random: &mut Random, scene: &Scene, [long, size, bad]: [bool; 3
     input
 }
 
+/// Rooms for a list, in bytes.
+pub(crate) const ROOMS: [usize; 11] = [
+    0,
+    SPOT - 1,
+    SPOT,
+    SPOT + 1,
+    2 * SPOT - 1,
+    2 * SPOT,
+    2 * SPOT + 1,
+    10 * SPOT,
+    100 * SPOT,
+    1000 * SPOT,
+    2704 * SPOT,
+];
+
 fn detect(random: &mut Random, number: usize) -> Case {
     let mut scene = if number % 2 == 0 {
         lively(random)
     } else {
         scene(random)
     };
-    let [size, level, octave, bad] = faults(number);
+    damage(random, &mut scene, faults(number));
+    let room = random.pick(&ROOMS);
+    Case::Detect {
+        scene,
+        room,
+        fill: random.word() as u8,
+    }
+}
+
+/// A scene with sides too long, a level too long or short, an octave above 5, a set that is not good.
+pub(crate) fn damage(random: &mut Random, scene: &mut Scene, faults: [bool; 4]) {
+    let [size, level, octave, bad] = faults;
     if size {
         let side = random.pick(&[4097, 4098, 65536, usize::MAX, 1 << 63]);
         if random.once_in(2) {
@@ -314,12 +345,6 @@ fn detect(random: &mut Random, number: usize) -> Case {
     }
     if bad {
         scene.set = sets::damaged(random);
-    }
-    let room = random.pick(&[0, SPOT - 1, SPOT, SPOT + 1, 2 * SPOT - 1, 2 * SPOT, 2 * SPOT + 1, 10 * SPOT, 100 * SPOT, 1000 * SPOT, 2704 * SPOT]);
-    Case::Detect {
-        scene,
-        room,
-        fill: random.word() as u8,
     }
 }
 

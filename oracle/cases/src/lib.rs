@@ -3,6 +3,7 @@
 pub mod case;
 pub mod edges;
 pub mod families;
+mod limits;
 pub mod maps;
 mod mirrored;
 mod overshoot;

@@ -7,7 +7,7 @@ use subject::answer;
 use subject::stored::{Entry, Kept, Section};
 
 /// Cases of a family in a bounded run and in the stored list.
-pub const COUNTS: [(&str, usize); 18] = [
+pub const COUNTS: [(&str, usize); 20] = [
     ("list", 3000),
     ("detect", 1800),
     ("join", 1200),
@@ -26,6 +26,8 @@ pub const COUNTS: [(&str, usize); 18] = [
     ("mirrored", 600),
     ("cancelling", 400),
     ("inflected", 1200),
+    ("blanks", 2 * 6 * 6 * 16),
+    ("limits", 1200),
 ];
 
 /// Scenes and corrections that are searched for edges, with the tries at each.

@@ -17,10 +17,10 @@ enum-told : tie.Need-enum-told
 enum-told c = search needs
 
 cast-t19 : tie.Need-cast-t19
-cast-t19 c = let passed = checks-passed _ _ _ _ _ _ _ _ (sym (c .before .before .checked .ensures) ∙ c .enum-told .given .1) in omega (arith, passed .octave-most)
+cast-t19 c = let passed = checks-passed _ _ _ _ _ _ _ _ _ (sym (c .before .before .checked .ensures) ∙ c .enum-told .given .1) in omega (arith, passed .octave-most)
 
 rows-spots-requires : tie.Need-rows-spots-requires
-rows-spots-requires c κs = checks-passed _ _ _ _ _ _ _ _ (sym (c .before .before .before .checked .ensures) ∙ c .before .enum-told .given .1) .sized
+rows-spots-requires c κs = checks-passed _ _ _ _ _ _ _ _ _ (sym (c .before .before .before .checked .ensures) ∙ c .before .enum-told .given .1) .sized
 
 returns : tie.Need-returns
 unfolding detectOf detected

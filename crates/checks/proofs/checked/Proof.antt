@@ -10,6 +10,9 @@ use borrow.Author.Needs.{needs}
 use Rattle.checks.proofs.checked.Statement.{statement}
 use Rattle.checks.proofs.checked.Tie as tie
 
+has-nan-requires : tie.Need-has-nan-requires
+has-nan-requires c κs = search needs
+
 is-good-requires : tie.Need-is-good-requires
 is-good-requires c κs = search needs
 
@@ -21,7 +24,10 @@ unfolding detectChecks firstOf unless
 returns c = rw (← c .before .sides-off .ensures, c .if1 .taken)
 
 mul-levels-off : tie.Need-mul-levels-off
-mul-levels-off c = let most = sides-most (c .before .before .before .args .rows) (c .before .before .before .args .cols) (sym (c .before .sides-off .ensures) ∙ c .if1 .left) in omega (arith, mul-le-mul (most .0) (most .1))
+mul-levels-off c =
+    let given = c .before .before .before .before .args in
+    let most = sides-most (given .rows) (given .cols) (sym (c .before .sides-off .ensures) ∙ c .if1 .left) in
+    omega (arith, mul-le-mul (most .0) (most .1))
 
 levels-off-requires : tie.Need-levels-off-requires
 levels-off-requires c κs = search needs
@@ -36,16 +42,21 @@ returns-3 c = rw (← c .before .before .before .before .sides-off .ensures, c .
 
 returns-4 : tie.Need-returns-4
 unfolding detectChecks firstOf unless
-returns-4 c = rw (← c .before .before .before .before .before .before .is-good .ensures, ← c .before .before .before .before .before .sides-off .ensures, c .before .before .before .before .if1 .left, ← c .before .before .before .levels-off .ensures, c .before .before .if2 .left, le-ltb _ _ (c .before .if3 .left), not-true (c .before .before .before .before .before .before .is-good .result) (c .if4 .taken))
+returns-4 c = rw (← c .before .before .before .before .before .before .before .has-nan .ensures, ← c .before .before .before .before .before .sides-off .ensures, c .before .before .before .before .if1 .left, ← c .before .before .before .levels-off .ensures, c .before .before .if2 .left, le-ltb _ _ (c .before .if3 .left), c .if4 .taken)
 
 returns-5 : tie.Need-returns-5
 unfolding detectChecks firstOf unless
-returns-5 c = rw (← c .before .before .before .before .before .before .is-good .ensures, ← c .before .before .before .before .before .sides-off .ensures, c .before .before .before .before .if1 .left, ← c .before .before .before .levels-off .ensures, c .before .before .if2 .left, le-ltb _ _ (c .before .if3 .left), not-false (c .before .before .before .before .before .before .is-good .result) (c .if4 .left))
+returns-5 c = rw (← c .before .before .before .before .before .before .before .before .has-nan .ensures, ← c .before .before .before .before .before .before .before .is-good .ensures, ← c .before .before .before .before .before .before .sides-off .ensures, c .before .before .before .before .before .if1 .left, ← c .before .before .before .before .levels-off .ensures, c .before .before .before .if2 .left, le-ltb _ _ (c .before .before .if3 .left), c .before .if4 .left, not-true (c .before .before .before .before .before .before .before .is-good .result) (c .if5 .taken))
+
+returns-6 : tie.Need-returns-6
+unfolding detectChecks firstOf unless
+returns-6 c = rw (← c .before .before .before .before .before .before .before .before .has-nan .ensures, ← c .before .before .before .before .before .before .before .is-good .ensures, ← c .before .before .before .before .before .before .sides-off .ensures, c .before .before .before .before .before .if1 .left, ← c .before .before .before .before .levels-off .ensures, c .before .before .before .if2 .left, le-ltb _ _ (c .before .before .if3 .left), c .before .if4 .left, not-false (c .before .before .before .before .before .before .before .is-good .result) (c .if5 .left))
 
 pub checked-spec : {M : Type 1} → statement M
 checked-spec =
     tie.close
     (tie.spec
+    has-nan-requires
     is-good-requires
     sides-off-requires
     returns
@@ -54,4 +65,5 @@ checked-spec =
     returns-2
     returns-3
     returns-4
-    returns-5)
+    returns-5
+    returns-6)

@@ -1,9 +1,9 @@
-//! Document 01's public entries: the refusals in their order, then the published text.
+//! The public entries of documents 01 and 02: the refusals in their order, then the published text.
 
 use crate::here::with;
 use crate::record::{self, SIZED, SPOT, Spot};
 use crate::run::offered;
-use crate::{Answer, Logs, Map, Pass, Rules, Set, counting};
+use crate::{Answer, Logs, Map, Pass, Rules, Set, Thresholds, counting};
 
 /// The longest side.
 pub const LONGEST: usize = 4096;
@@ -12,14 +12,26 @@ fn refused(number: u32) -> Answer {
     Answer::Refused { number, index: 0 }
 }
 
-/// Detection's refusals, the first that applies: 1, 2, 3, 4.
+/// A NaN, of any pattern, among the five.
+fn any_nan(thresholds: Thresholds) -> bool {
+    let Thresholds {
+        peak,
+        sigma,
+        ratio,
+        low,
+        high,
+    } = thresholds;
+    [peak, sigma, ratio, low, high].iter().any(|t| t.is_nan())
+}
+
+/// Detection's refusals, the first that applies: 1, 2, 3, 8, 4.
 pub fn detection_refusal(good: bool, map: Map) -> Option<u32> {
     let Map {
+        thresholds,
         rows,
         cols,
         octave,
         levels,
-        ..
     } = map;
     if rows > LONGEST || cols > LONGEST {
         Some(1)
@@ -27,6 +39,8 @@ pub fn detection_refusal(good: bool, map: Map) -> Option<u32> {
         Some(2)
     } else if octave > 5 {
         Some(3)
+    } else if any_nan(thresholds) {
+        Some(8)
     } else if !good {
         Some(4)
     } else {
