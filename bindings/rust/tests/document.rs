@@ -139,6 +139,69 @@ fn the_first_refusal_is_given_and_nothing_is_written() {
     }
 }
 
+/// Map M's thresholds with those at the places `nan` of the bit pattern given.
+fn blank(nan: [bool; 5], bits: u32) -> Thresholds {
+    let put = |place: usize, value| {
+        if nan[place] {
+            f32::from_bits(bits)
+        } else {
+            value
+        }
+    };
+    Thresholds {
+        peak: put(0, THRESHOLDS.peak),
+        sigma: put(1, THRESHOLDS.sigma),
+        ratio: put(2, THRESHOLDS.ratio),
+        low: put(3, THRESHOLDS.low),
+        high: put(4, THRESHOLDS.high),
+    }
+}
+
+#[test]
+fn a_threshold_that_is_nan_is_refused_after_the_octave_and_before_the_set() {
+    let levels = levels(9, 10, (4, 4));
+    let sound = map(9, 10, &levels);
+    let high = Map { octave: 6, ..sound };
+    let (good, bad) = (set_t(), vec![0; 527]);
+    for chosen in 1..32 {
+        let nan = [0, 1, 2, 3, 4].map(|place| chosen >> place & 1 == 1);
+        for bits in [0x7fc0_0000, 0x7f80_0001, 0xffc0_0000, 0xff80_0001] {
+            let thresholds = blank(nan, bits);
+            let mut out = [0xa5; 80];
+            let mut refused = |set, map| uramsheg::detect(set, thresholds, map, &mut out);
+            assert_eq!(refused(&good, sound), Err(Refusal::Thresholds { nan }));
+            assert_eq!(refused(&bad, sound), Err(Refusal::Thresholds { nan }));
+            assert_eq!(refused(&bad, high), Err(Refusal::Octave));
+            assert!(out.iter().all(|&byte| byte == 0xa5));
+        }
+    }
+}
+
+#[test]
+fn infinite_thresholds_and_a_window_from_high_to_low_are_judged() {
+    let levels = levels(9, 10, (4, 4));
+    let count = |thresholds| uramsheg::detect(&set_t(), thresholds, map(9, 10, &levels), &mut []);
+    let open = Thresholds {
+        peak: f32::NEG_INFINITY,
+        sigma: f32::NEG_INFINITY,
+        ratio: f32::INFINITY,
+        low: f32::NEG_INFINITY,
+        high: f32::INFINITY,
+    };
+    let reversed = Thresholds {
+        low: THRESHOLDS.high,
+        high: THRESHOLDS.low,
+        ..THRESHOLDS
+    };
+    let shut = Thresholds {
+        peak: f32::INFINITY,
+        ..THRESHOLDS
+    };
+    assert_eq!(count(reversed), Ok(0));
+    assert_eq!(count(shut), Ok(0));
+    assert_eq!(count(open).map(|found| found > 0), Ok(true));
+}
+
 #[test]
 fn the_join_sizes_each_record_by_itself() {
     let levels = levels(9, 10, (4, 4));
@@ -262,13 +325,28 @@ fn sets_are_checked() {
 
 #[test]
 fn refusals_have_their_numbers_and_words() {
-    for number in 1..=7 {
+    for number in 1..=8 {
         let refusal = Refusal::from_number(number, 3).unwrap();
         assert_eq!(refusal.number(), number);
         assert!(!refusal.to_string().is_empty());
     }
     assert_eq!(Refusal::from_number(0, 0), None);
-    assert_eq!(Refusal::from_number(8, 0), None);
+    assert_eq!(Refusal::from_number(9, 0), None);
+}
+
+#[test]
+fn a_refused_threshold_is_named() {
+    let words = |nan| Refusal::Thresholds { nan }.to_string();
+    let one = words([false, false, true, false, false]);
+    assert!(
+        one.starts_with("a threshold is not a number: ratio;"),
+        "{one}"
+    );
+    let two = words([true, false, false, false, true]);
+    assert!(
+        two.starts_with("a threshold is not a number: peak, high;"),
+        "{two}"
+    );
 }
 
 #[test]

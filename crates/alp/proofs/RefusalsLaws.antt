@@ -1,15 +1,18 @@
 -- Refusals: the first check that holds, by its place; nothing written; and none holds exactly where the call answers Found.
-use Prim.Native.Nat.{ℕ}
+use Prim.Native.Nat.{ℕ, zero, suc, _<_}
+use native.Mathlib.Omega.{arith}
+use mathlib.Core.Bool.{true}
 use mathlib.Core.List.{List}
-use mathlib.Core.Path.{_≡_, refl}
+use mathlib.Core.Path.{_≡_, refl, ap}
 use lib.ListN.{length}
 use lib.Ieee.{Float}
 use Rattle.tables.specs.declared.Set.{Set}
 use Rattle.tables.specs.declared.Thresholds.{Thresholds}
 use Rattle.tables.specs.declared.Refusal.{Refusal}
+use Rattle.tables.specs.declared.Refusal.the-variants as refusal
 use Rattle.tables.specs.declared.Checked.{Checked}
 use Rattle.tables.specs.declared.Checked.the-variants.{Fine, Bad}
-use Rattle.tables.specs.Refusal.{Check, saidAt, First}
+use Rattle.tables.specs.Refusal.{Check, number, unless, saidAt, First, anyNan}
 use Rattle.tables.proofs.RefusalLaws as laws
 use Rattle.samples.specs.Level.{Maps, mapsOf}
 use Rattle.alp.specs.Due.{due}
@@ -77,3 +80,30 @@ module _ (s : Set) (th : Thresholds) (rows cols octave : ℕ) (l0 l1 l2 l3 : Lis
   pub none-found : ((k : ℕ) → saidAt checks k ≡ Fine) → after .answer ≡ Found (length (due maps))
   unfolding detectOf detected
   none-found h = rw (laws.fine-first checks h)
+
+  -- a threshold is a NaN, and no check before the thresholds' refuses: those at the places 0, 1 and 2
+  pub record OnlyNan : Type 0 where
+    pub earlier : (k : ℕ) → k < 3 → saidAt checks k ≡ Fine
+    pub nan : anyNan th ≡ true
+
+  -- the check that refuses with 8 is the thresholds'
+  eight-at : (place : ℕ) → saidAt checks place ≡ Bad refusal.Thresholds → ((k : ℕ) → k < place → saidAt checks k ≡ Fine) → OnlyNan
+  unfolding saidAt detectChecks number
+  eight-at zero said before = let is = laws.said-bad _ refusal.Size _ said .1 in let z : ⊥ = omega (arith, ap number is) in absurd z
+  eight-at (suc zero) said before = let is = laws.said-bad _ refusal.Level _ said .1 in let z : ⊥ = omega (arith, ap number is) in absurd z
+  eight-at (suc (suc zero)) said before = let is = laws.said-bad _ refusal.Octave _ said .1 in let z : ⊥ = omega (arith, ap number is) in absurd z
+  eight-at (suc (suc (suc zero))) said before = record { earlier = before; nan = laws.said-bad (anyNan th) refusal.Thresholds _ said .0 }
+  eight-at (suc (suc (suc (suc zero)))) said before = let is = laws.said-bad _ refusal.BadSet _ said .1 in let z : ⊥ = omega (arith, ap number is) in absurd z
+  eight-at (suc (suc (suc (suc (suc k))))) said before = let never : _≡_ {A = ℕ} 0 1 = cc in let z : ⊥ = omega (arith, never) in absurd z
+
+  -- 8 is answered only where that is so
+  pub eight-only-nan : after .answer ≡ Refused refusal.Thresholds → OnlyNan
+  eight-only-nan e = let first = refused-first refusal.Thresholds e in eight-at (first .place) (first .holds) (first .earlier)
+
+  thresholds-said : anyNan th ≡ true → saidAt checks 3 ≡ Bad refusal.Thresholds
+  unfolding saidAt detectChecks unless
+  thresholds-said e = rw e
+
+  -- and wherever it is so
+  pub only-nan-eight : OnlyNan → after .answer ≡ Refused refusal.Thresholds
+  only-nan-eight p = first-answered refusal.Thresholds (record { place = 3; holds = thresholds-said (p .nan); earlier = p .earlier })

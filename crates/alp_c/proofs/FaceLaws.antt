@@ -20,6 +20,7 @@ use Rattle.tables.specs.declared.Checked.the-variants.{Fine, Bad}
 use Rattle.tables.specs.Set.{every, allSet, rising, good, blank, setOf, spareZero, goodRecord}
 use Rattle.tables.specs.Refusal.{number, Check, unless, saidAt, refusedSet, readSetOf}
 use Rattle.tables.proofs.SetLaws.{good-record-read, bad-record-refused}
+use Rattle.tables.proofs.RefusalLaws.{said-bad}
 use Rattle.checks.specs.Checks.{detectChecks}
 use Rattle.alp.specs.Detect.{Outcome, outcome, detectOf}
 use Rattle.alp.specs.declared.Answer.{Answer}
@@ -73,12 +74,6 @@ unfolding checkFace refusedSet number
 bad-record-four b e = rw (bad-record-refused b e)
 
 -- ---- detection
-
--- what a check by itself refuses with, and that it does
-said-bad : (test : Bool) (r w : Refusal) → unless test r Fine ≡ Bad w → (test ≡ true) × (r ≡ w)
-unfolding unless
-said-bad true r w e = (refl, cc)
-said-bad false r w e = (cc, cc)
 
 -- a call whose record is bad, and that no check before the set's refuses: those at the places 0 to 3 of detection's
 pub record OnlySet (b : List ℕ) (th : Thresholds) (rows cols octave : ℕ) (l0 l1 l2 l3 : List Float) : Type 0 where

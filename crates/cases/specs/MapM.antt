@@ -1,10 +1,16 @@
--- Document 01's map M, and a case of the list that is due for it. Definitions only.
+-- Document 01's map M, cases of the list that is due for it, and of its refusal. Definitions only.
 use Prim.Native.Nat.{ℕ, _+_, _*_}
 use mathlib.Core.List.{List, [], _∷_}
 use lib.ListN.{replicate, set}
 use lib.Ieee.{Float, binary32, ofBits}
 use Rattle.float.specs.Num.{f0}
+use Rattle.tables.specs.declared.Set.{Set}
+use Rattle.tables.specs.declared.Thresholds.{Thresholds}
+use Rattle.tables.specs.declared.Checked.{Checked}
+use Rattle.tables.specs.declared.Checked.the-variants.{Fine, Bad}
+use Rattle.tables.specs.Refusal.{number, firstOf}
 use Rattle.tables.specs.SetT.{setT}
+use Rattle.checks.specs.Checks.{detectChecks}
 use Rattle.record.specs.Layout.{bytesOf}
 use Rattle.samples.specs.Level.{Maps, mapsOf}
 use Rattle.alp.specs.Due as dues
@@ -22,17 +28,24 @@ put row col pattern l = set l (col * 9 + row) (ofBits binary32 pattern)
 unfoldable pub levelM : List Float
 levelM = put 4 4 0x3e800000 zeros
 
--- map M with this level 0: -0.25 at (4,4) of level 1; octave 0, set T, thresholds 1, 1, 10, window 1.9027314 to 4.1498866
+-- thresholds by their bit patterns: peak, sigma, ratio, and the window's two ends
+unfoldable pub thresholdsOf : ℕ → ℕ → ℕ → ℕ → ℕ → Thresholds
+thresholdsOf peak sigma ratio low high = record {
+  peak = ofBits binary32 peak;
+  sigma = ofBits binary32 sigma;
+  ratio = ofBits binary32 ratio;
+  low = ofBits binary32 low;
+  high = ofBits binary32 high;
+}
+
+-- map M's: 1, 1, 10, window 1.9027314 to 4.1498866
+unfoldable pub thresholdsM : Thresholds
+thresholdsM = thresholdsOf 0x3f800000 0x3f800000 0x41200000 0x3ff38cb4 0x4084cbdf
+
+-- map M with this level 0: -0.25 at (4,4) of level 1; octave 0, set T, map M's thresholds
 unfoldable pub mapM : List Float → Maps
 mapM l0 =
-    mapsOf l0 (put 4 4 0xbe800000 zeros) zeros zeros (record { rows = 9; cols = 10; octave = 0 }) setT
-    (record {
-      peak = ofBits binary32 0x3f800000;
-      sigma = ofBits binary32 0x3f800000;
-      ratio = ofBits binary32 0x41200000;
-      low = ofBits binary32 0x3ff38cb4;
-      high = ofBits binary32 0x4084cbdf;
-    })
+    mapsOf l0 (put 4 4 0xbe800000 zeros) zeros zeros (record { rows = 9; cols = 10; octave = 0 }) setT thresholdsM
 
 -- the 40 bytes of map M's one spot
 unfoldable pub bytesM : List ℕ
@@ -44,3 +57,12 @@ bytesM =
 -- the bytes of the list that is due for map M with this level 0
 unfoldable pub mapCase : List Float → List ℕ → Case
 mapCase l0 bytes = record { given = bytesOf (dues.due (mapM l0)); due = bytes }
+
+-- the number of a refusal; 0 where nothing is refused
+unfoldable pub ofChecked : Checked → List ℕ
+ofChecked Fine = 0 ∷ []
+ofChecked (Bad r) = number r ∷ []
+
+-- what detection's checks say of map M in this octave, with these thresholds and this set
+unfoldable pub checksCase : ℕ → Thresholds → Set → List ℕ → Case
+checksCase octave t s due = record { given = ofChecked (firstOf (detectChecks 90 90 90 90 9 10 octave t s)); due = due }

@@ -1,12 +1,12 @@
--- Document 01's worked cases in a single table: what the definitions give beside what document 01 says. Definitions only.
+-- The worked cases in a single table: what the definitions give beside what documents 01 and 02 say. Definitions only.
 use mathlib.Core.List.{List, [], _∷_}
 use mathlib.Core.Bool.{true, false}
 use Rattle.tables.specs.Set.{blank}
 use Rattle.tables.specs.SetT.{sigmasT, cubicT, setT}
 use Rattle.cases.specs.Case.{Case, rootCase, logCase, valueCase, extremeCase, countCase, envelopeCase, correctionCase}
-use Rattle.cases.specs.MapM.{put, levelM, bytesM, mapCase}
+use Rattle.cases.specs.MapM.{put, levelM, bytesM, mapCase, thresholdsOf, thresholdsM, checksCase}
 
--- the worked cases in document 01's order, and after P12 the other cases of the correction
+-- the worked cases in document 01's order; after P12 the other cases of the correction, then those of document 02's requests
 unfoldable pub table : List Case
 table =
     -- P1 root 2.25 is 1.5.
@@ -46,4 +46,18 @@ table =
     ∷ correctionCase setT (0x3f800000 ∷ 0x3f23d70a ∷ 0x3eb851ec ∷ 0x3e62c4a7 ∷ []) 0x40000000 false (0 ∷ 0x3f547b82 ∷ [])
     -- A set of zeros is refused with 4.
     ∷ correctionCase blank (0xbf800000 ∷ 0x40800000 ∷ 0 ∷ 0 ∷ []) 0x40000000 true (4 ∷ [])
+    -- No. 1 map M is not refused.
+    ∷ checksCase 0 thresholdsM setT (0 ∷ [])
+    -- With a NaN for one of its thresholds, quiet, signalling or negative, it is refused with 8.
+    ∷ checksCase 0 (thresholdsOf 0x7fc00000 0x3f800000 0x41200000 0x3ff38cb4 0x4084cbdf) setT (8 ∷ [])
+    ∷ checksCase 0 (thresholdsOf 0x3f800000 0x7f800001 0x41200000 0x3ff38cb4 0x4084cbdf) setT (8 ∷ [])
+    ∷ checksCase 0 (thresholdsOf 0x3f800000 0x3f800000 0xffc00000 0x3ff38cb4 0x4084cbdf) setT (8 ∷ [])
+    ∷ checksCase 0 (thresholdsOf 0x3f800000 0x3f800000 0x41200000 0xff800001 0x4084cbdf) setT (8 ∷ [])
+    ∷ checksCase 0 (thresholdsOf 0x3f800000 0x3f800000 0x41200000 0x3ff38cb4 0x7fffffff) setT (8 ∷ [])
+    -- 8 comes after 3 and before 4.
+    ∷ checksCase 6 (thresholdsOf 0x3f800000 0x3f800000 0x7fc00000 0x3ff38cb4 0x4084cbdf) setT (3 ∷ [])
+    ∷ checksCase 0 (thresholdsOf 0x3f800000 0x3f800000 0x7fc00000 0x3ff38cb4 0x4084cbdf) blank (8 ∷ [])
+    ∷ checksCase 0 thresholdsM blank (4 ∷ [])
+    -- Infinities, and a window from high to low, are not refused.
+    ∷ checksCase 0 (thresholdsOf 0x7f800000 0xff800000 0x7f800000 0x7f800000 0xff800000) setT (0 ∷ [])
     ∷ []

@@ -8,9 +8,11 @@ use prog.Routine.{Routine}
 use ghost.Atoms.{Atoms}
 use contract.Monad.{Fun}
 use Rattle.tables.proofs.is_good as is-good
+use Rattle.tables.proofs.has_nan as has-nan
 use Rattle.tables.proofs.read_set as read-set
 use Rattle.tables.proofs.refusals.number_of as number-of
 use Rattle.tables.proofs.refusals.value_of as value-of
+use Rattle.checks.proofs.checked as checked
 use Rattle.alp.proofs.detect as detect
 use Rattle.join.proofs.join as join
 use Rattle.size.proofs.correct as correct
@@ -26,10 +28,13 @@ use Rattle.promises.specs.Settles.{Settles}
 use Rattle.promises.proofs.Facts.{both-told, one-value, one-answer, untouched}
 
 module _ {M : Type 1} (𝓤 : URA M) (H : Heap 𝓤) (A : Atoms 𝓤) (mem : Memory → SProp 𝓤) (run : Routine → Fun 𝓤) where
-  -- ---- the set of tables
+  -- ---- the set of tables, and the thresholds
 
   pub is-good-settled : Settles 𝓤 is-good.ended (is-good.clauses 𝓤 H A mem run)
   is-good-settled κs a g g' r r' ws ws' = one-answer 𝓤 _
+
+  pub has-nan-settled : Settles 𝓤 has-nan.ended (has-nan.clauses 𝓤 H A mem run)
+  has-nan-settled κs a g g' r r' ws ws' = one-answer 𝓤 _
 
   pub read-set-settled : Settles 𝓤 read-set.ended (read-set.clauses 𝓤 H A mem run)
   read-set-settled κs a g g' r r' ws ws' = one-answer 𝓤 _
@@ -42,7 +47,10 @@ module _ {M : Type 1} (𝓤 : URA M) (H : Heap 𝓤) (A : Atoms 𝓤) (mem : Mem
   pub value-of-settled : Settles 𝓤 value-of.ended (value-of.clauses 𝓤 H A mem run)
   value-of-settled κs a g g' r r' ws ws' = one-answer 𝓤 _
 
-  -- ---- detection, the join, the correction
+  -- ---- detection's checks, detection, the join, the correction
+
+  pub checked-settled : Settles 𝓤 checked.ended (checked.clauses 𝓤 H A mem run)
+  checked-settled κs a g g' r r' ws ws' = one-answer 𝓤 _
 
   pub detect-settled : Settles 𝓤 detect.ended (detect.clauses 𝓤 H A mem run)
   detect-settled κs a g g' r r' ws ws' = one-value 𝓤 _ _ _ (λ x. x .answer) (λ x. untouched 9 (x .buffer, tt))

@@ -20,6 +20,12 @@ unfolding unless
 unless-fine true r next h = (cc, cc)
 unless-fine false r next h = (refl, h)
 
+-- what a check by itself refuses with, and that it does
+pub said-bad : (b : Bool) (r w : Refusal) → unless b r Fine ≡ Bad w → (b ≡ true) × (r ≡ w)
+unfolding unless
+said-bad true r w e = (refl, cc)
+said-bad false r w e = (cc, cc)
+
 -- sides that are not refused are no longer than the longest
 pub sides-most : (rows cols : ℕ) → sidesCheck rows cols .holds ≡ false → (rows ≤ mostSide) × (cols ≤ mostSide)
 sides-most rows cols h = let p = neither (ltb mostSide rows) (ltb mostSide cols) h in (ltb-false mostSide rows (p .0), ltb-false mostSide cols (p .1))

@@ -258,7 +258,11 @@ fn list(random: &mut Random, number: usize) -> Case {
 }
 
 /// A scene's input with a wrong length, side or spare byte of the set.
-pub(crate) fn damaged_input(random: &mut Random, scene: &Scene, [long, size, bad]: [bool; 3]) -> Vec<u8> {
+pub(crate) fn damaged_input(
+    random: &mut Random,
+    scene: &Scene,
+    [long, size, bad]: [bool; 3],
+) -> Vec<u8> {
     let mut input = scene.input();
     if bad && random.once_in(4) {
         input[..525].copy_from_slice(&Set::t().record()[..525]);

@@ -76,12 +76,12 @@ fn thresholds(random: &mut Random, sigmas: [f32; 4]) -> Thresholds {
     let odd = random.below(8) == 0;
     Thresholds {
         peak: if odd {
-            random.pick(&ODD)
+            random.pick(&[f32::INFINITY, f32::NEG_INFINITY, f32::MAX, -0.0])
         } else {
             random.pick(&[0.0, 1.0, -0.5, -1e9])
         },
         sigma: random.pick(&[0.0, 0.01, -1.0]),
-        ratio: random.pick(&[4.5, 12.1, 1e6, f32::NAN]),
+        ratio: random.pick(&[4.5, 12.1, 1e6, f32::INFINITY]),
         low: random.pick(&[0.0, sigmas[0], sigmas[1] * 0.9]),
         high: random.pick(&[sigmas[3], sigmas[3] * 0.92, f32::INFINITY]),
     }

@@ -1,4 +1,4 @@
-//! Document 01's numbers, from the judge.
+//! Numbers of documents 01 and 02, from the judge.
 
 use judge::{Answer, Logs, Map, Pass, Rules, Set, Thresholds, inner};
 
@@ -132,9 +132,16 @@ fn number(answer: Answer) -> u32 {
 }
 
 /// The reference's answer on a map of ten columns.
-fn detected(set: &Set, rows: usize, octave: usize, levels: [&[f32]; 4], out: &mut [u8]) -> Answer {
+fn detected(
+    set: &Set,
+    thresholds: Thresholds,
+    rows: usize,
+    octave: usize,
+    levels: [&[f32]; 4],
+    out: &mut [u8],
+) -> Answer {
     let map = Map {
-        thresholds: TH,
+        thresholds,
         rows,
         cols: 10,
         octave,
@@ -149,29 +156,74 @@ fn detection_refuses_in_the_tables_order() {
     let mut bad = Set::t();
     bad.order[3] = 9;
     let level = [0.0; 90];
-    for (set, rows, octave, expected) in [
-        (&good, 9, 0, 0),
-        (&bad, 9, 0, 4),
-        (&bad, 9, 6, 3),
-        (&bad, 8, 6, 2),
-        (&bad, 4097, 6, 1),
-        (&good, 4097, 0, 1),
+    let blank = Thresholds {
+        ratio: f32::NAN,
+        ..TH
+    };
+    for (set, thresholds, rows, octave, expected) in [
+        (&good, TH, 9, 0, 0),
+        (&bad, TH, 9, 0, 4),
+        (&good, blank, 9, 0, 8),
+        (&bad, blank, 9, 0, 8),
+        (&bad, blank, 9, 6, 3),
+        (&bad, blank, 8, 6, 2),
+        (&bad, blank, 4097, 6, 1),
+        (&good, TH, 4097, 0, 1),
     ] {
         let mut out = [7; 40];
-        let answer = detected(set, rows, octave, [&level; 4], &mut out);
+        let answer = detected(set, thresholds, rows, octave, [&level; 4], &mut out);
         assert_eq!((number(answer), out), (expected, [7; 40]));
+    }
+}
+
+/// Map M's four levels, one after another.
+fn pixels_of_m() -> Vec<f32> {
+    let pixel = |bytes: &[u8]| f32::from_le_bytes(bytes.try_into().unwrap());
+    let input = judge::cases::map_m(None);
+    input[560..].chunks_exact(4).map(pixel).collect()
+}
+
+/// How many spots the Rust itself, without refusals, lists on map M, by both passes.
+fn counts_of_m(thresholds: Thresholds) -> [usize; 2] {
+    let pixels = pixels_of_m();
+    let map = Map {
+        thresholds,
+        rows: 9,
+        cols: 10,
+        octave: 0,
+        levels: core::array::from_fn(|k| &pixels[90 * k..90 * (k + 1)]),
+    };
+    [Pass::Reference, Pass::Streaming].map(|pass| judge::fixed::time(0, pass, map).1)
+}
+
+#[test]
+fn in_the_rust_every_ratio_passes_a_limit_that_is_nan() {
+    let count = |ratio| counts_of_m(Thresholds { ratio, ..TH });
+    assert_eq!(count(4.0), [1, 1]);
+    assert_eq!(count(4.0f32.next_down()), [0, 0]);
+    assert_eq!(count(f32::NAN), [1, 1]);
+}
+
+#[test]
+fn in_the_rust_nothing_passes_another_limit_that_is_nan() {
+    let nan = f32::NAN;
+    for thresholds in [
+        Thresholds { peak: nan, ..TH },
+        Thresholds { sigma: nan, ..TH },
+        Thresholds { low: nan, ..TH },
+        Thresholds { high: nan, ..TH },
+    ] {
+        assert_eq!(counts_of_m(thresholds), [0, 0]);
     }
 }
 
 #[test]
 fn short_spot_buffers_keep_their_other_bytes() {
-    let input = judge::cases::map_m(None);
-    let pixel = |bytes: &[u8]| f32::from_le_bytes(bytes.try_into().unwrap());
-    let pixels: Vec<f32> = input[560..].chunks_exact(4).map(pixel).collect();
+    let pixels = pixels_of_m();
     let levels: [&[f32]; 4] = core::array::from_fn(|k| &pixels[90 * k..90 * (k + 1)]);
     for (room, written) in [(0, 0), (39, 0), (40, 40), (79, 40), (100, 40)] {
         let mut out = vec![0xa5; room];
-        let answer = detected(&Set::t(), 9, 0, levels, &mut out);
+        let answer = detected(&Set::t(), TH, 9, 0, levels, &mut out);
         assert_eq!(answer, Answer::Done(1));
         assert!(out[written..].iter().all(|&byte| byte == 0xa5) && (written == 0 || out[39] == 0));
     }
@@ -201,9 +253,12 @@ fn the_list_program_refuses_in_its_order() {
         String::from_utf8(judge::list_program(&input, true)).unwrap()
     };
     let (side, octave, spare) = ((548, 61), (556, 6), (527, 1));
+    let ratio = [(538, 0xc0), (539, 0x7f)];
     assert_eq!(with(&[side, octave, spare], 1), "refused 1\n");
     assert_eq!(with(&[octave, spare], 1), "refused 2\n");
     assert_eq!(with(&[octave, spare], 0), "refused 3\n");
+    assert_eq!(with(&[octave, ratio[0], ratio[1]], 0), "refused 3\n");
+    assert_eq!(with(&[spare, ratio[0], ratio[1]], 0), "refused 8\n");
     assert_eq!(with(&[spare], 0), "refused 4\n");
     assert_eq!(with(&[side], sound.len() - 559), "refused 2\n");
     assert_eq!(judge::list_program(&[], true), b"refused 2\n");
