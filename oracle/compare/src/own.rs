@@ -46,7 +46,7 @@ pub fn passes(seed: u64, times: usize) -> bool {
         rules: Rules::Published,
         ..pass
     });
-    for family in ["list", "detect", "sized", "wide", "steep", "edge"] {
+    for family in ["list", "detect", "sized", "wide", "steep", "limits", "edge"] {
         plan::each(family, seed, times, |one| {
             let Some(scene) = scene_of(family, seed, &one) else {
                 return;
