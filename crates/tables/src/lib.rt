@@ -4,6 +4,7 @@ ghost use Rattle.tables.specs.Set.{good};
 ghost use Rattle.tables.specs.Refusal.{anyNan, readSetOf};
 
 mod good;
+mod limits;
 mod reader;
 pub mod refusals;
 
@@ -66,11 +67,7 @@ pub fn is_good(s: Set) -> bool
 pub fn has_nan(t: Thresholds) -> bool
     ensures { λ r. ⌜ r ≡ anyNan t ⌝ }
 {
-    (t.peak != t.peak)
-        | (t.sigma != t.sigma)
-        | (t.ratio != t.ratio)
-        | (t.low != t.low)
-        | (t.high != t.high)
+    limits::nan_among(t.peak, t.sigma, t.ratio, t.low, t.high)
 }
 
 // The set that a record holds, or the refusal of the record.
