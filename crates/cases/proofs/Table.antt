@@ -19,8 +19,8 @@ use Rattle.fit.specs.Band.{bandBy, finiteCubic, signOf, stationaryOf, betterBy,
 use Rattle.fit.specs.Envelope.{within, endsBy, putLow, putHigh, turnOf, firstOf, secondOf, turnsOf, shapeBy, envelopeBy}
 use Rattle.fit.specs.Owns.{ownsBy}
 use Rattle.refine.specs.Refine as refined
-use Rattle.size.specs.Four.{squaresOf, lessOf, overOf, rootsOf, productsOf, quotientsOf, sumOf, meanOf, spreadOf, dotOf, energyOf, largestBy, allFinite, allAbove, allBelow, usable, allUsable}
-use Rattle.size.specs.Profile as profile
+use Rattle.profile.specs.Four.{squaresOf, lessOf, overOf, rootsOf, productsOf, quotientsOf, sumOf, meanOf, spreadOf, dotOf, energyOf, largestBy, allFinite, allAbove, allBelow, usable, allUsable}
+use Rattle.profile.specs.Profile as profile
 use Rattle.size.specs.Correct.{geometryOf, noBlend, blendOf, betaOf, blendBetaBy, boundedOf, weightOf, signedRoot, modelOf, proposalOf, modelMoveOf, derivativeOf, rightPolarity, placeOf, sigmaAt, accepted, gainOf, gained, flatter, better, chosenOf, trusted, inRange, movedOf, correctedBy, answerOf, correctBy}
 use Rattle.pyramid.specs.Pyramid.{octavesOf, octaveCountOf}
 use Rattle.pixel.specs.Gate.{sigmaOf, peakOf, strongOf, curvedOf, gateBy}

@@ -16,9 +16,9 @@ use Rattle.refine.specs.declared.Spot.{Spot}
 use Rattle.refine.specs.declared.lend.Settled.{Settled}
 use Rattle.refine.specs.Refine.{indexOf, spatialOf}
 use Rattle.refine.specs.Lend.{lentOf}
-use Rattle.size.specs.declared.Statistic.{Statistic}
-use Rattle.size.specs.declared.Statistic.the-variants.{Value, Absent}
-use Rattle.size.specs.Profile.{statisticOf}
+use Rattle.profile.specs.declared.Statistic.{Statistic}
+use Rattle.profile.specs.declared.Statistic.the-variants.{Value, Absent}
+use Rattle.profile.specs.Profile.{statisticOf}
 use Rattle.size.specs.Correct.{geometryOf, betaOf, blendBetaOf, boundedOf, modelMoveOf}
 
 -- the set that a record holds; of zeros where the record is refused

@@ -139,7 +139,7 @@ pub extern "C" fn probe_statistic(set: &[u8], l0: f32, l1: f32, l2: f32, l3: f32
 {
     let held = parts::held_in(set);
     let sigmas = held.sigmas;
-    let s = size::profile::profile_compatibility_statistic(sigmas, [l0, l1, l2, l3]);
+    let s = profile::profile_compatibility_statistic(sigmas, [l0, l1, l2, l3]);
     parts::number_of(s)
 }
 

@@ -7,9 +7,9 @@ ghost use lib.Ieee.{binary32, ofInt};
 ghost use Rattle.fit.specs.Cubic.{_at_, coeffsOf};
 ghost use Rattle.probe.specs.Probe.{held, partsOf, firstNine, fourOf, nineFours, freshOf, leavesOf, numberOf, givenOf};
 use fit::Envelope;
+use profile::Statistic;
 use refine::Spot;
 use refine::lend::Settled;
-use size::Statistic;
 use tables::Set;
 
 // The set that a record holds; of zeros where the record is refused.

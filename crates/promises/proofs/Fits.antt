@@ -13,6 +13,7 @@ use Rattle.fit.proofs.scale_fit.compute_geometry_poly_coeffs as compute-geometr
 use Rattle.fit.proofs.scale_fit.horner as horner
 use Rattle.fit.proofs.scale_fit.discriminant as discriminant
 use Rattle.fit.proofs.scale_fit.curvature as curvature
+use Rattle.fit.proofs.scale_fit.bends as bends
 use Rattle.fit.proofs.scale_fit.neighbor_scale_band as neighbor-scale-band
 use Rattle.fit.proofs.scale_fit.band_extreme as band-extreme
 use Rattle.fit.proofs.scale_fit.owns_scale_extremum as owns-scale-extremum
@@ -36,6 +37,8 @@ use Rattle.pixel.proofs.gate.owns_either as owns-either
 use Rattle.pixel.proofs.gate.own as own
 use Rattle.pixel.proofs.ring.beats as beats
 use Rattle.pixel.proofs.judge.settled as judged
+use Rattle.profile.proofs.profile_compatibility_statistic as profile-compatibility-statistic
+use Rattle.size.proofs.anchor.geometry_of as geometry-of
 use Rattle.size.proofs.anchor.profile_beta_from_statistic as profile-beta-from-statistic
 use Rattle.size.proofs.anchor.profile_blend_beta as profile-blend-beta
 use Rattle.size.proofs.anchor.profile_bounded_move as profile-bounded-move
@@ -64,6 +67,9 @@ module _ {M : Type 1} (𝓤 : URA M) (H : Heap 𝓤) (A : Atoms 𝓤) (mem : Mem
 
   pub curvature-settled : Settles 𝓤 curvature.ended (curvature.clauses 𝓤 H A mem run)
   curvature-settled κs a g g' r r' ws ws' = one-answer 𝓤 _
+
+  pub bends-settled : Settles 𝓤 bends.ended (bends.clauses 𝓤 H A mem run)
+  bends-settled κs a g g' r r' ws ws' = one-answer 𝓤 _
 
   pub neighbor-scale-band-settled : Settles 𝓤 neighbor-scale-band.ended (neighbor-scale-band.clauses 𝓤 H A mem run)
   neighbor-scale-band-settled κs a g g' r r' ws ws' = one-answer 𝓤 _
@@ -139,6 +145,12 @@ module _ {M : Type 1} (𝓤 : URA M) (H : Heap 𝓤) (A : Atoms 𝓤) (mem : Mem
   judged-settled κs a g g' r r' ws ws' = one-answer 𝓤 _
 
   -- ---- the parts of the correction
+
+  pub profile-compatibility-statistic-settled : Settles 𝓤 profile-compatibility-statistic.ended (profile-compatibility-statistic.clauses 𝓤 H A mem run)
+  profile-compatibility-statistic-settled κs a g g' r r' ws ws' = one-answer 𝓤 _
+
+  pub geometry-of-settled : Settles 𝓤 geometry-of.ended (geometry-of.clauses 𝓤 H A mem run)
+  geometry-of-settled κs a g g' r r' ws ws' = one-answer 𝓤 _
 
   pub profile-beta-from-statistic-settled : Settles 𝓤 profile-beta-from-statistic.ended (profile-beta-from-statistic.clauses 𝓤 H A mem run)
   profile-beta-from-statistic-settled κs a g g' r r' ws ws' = one-answer 𝓤 _

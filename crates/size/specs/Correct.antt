@@ -13,10 +13,10 @@ use Rattle.tables.specs.declared.Set.{Set}
 use Rattle.tables.specs.declared.Refusal.the-variants as refusal
 use Rattle.fit.specs.Cubic.{_at_, coeffsOf, curvatureOf}
 use Rattle.fit.specs.Prims.{Prims, ours}
-use Rattle.size.specs.Profile.{statisticBy}
+use Rattle.profile.specs.Profile.{statisticBy}
+use Rattle.profile.specs.declared.Statistic.{Statistic}
+use Rattle.profile.specs.declared.Statistic.the-variants.{Value, Absent}
 use Rattle.size.specs.declared.Geometry.{Geometry}
-use Rattle.size.specs.declared.Statistic.{Statistic}
-use Rattle.size.specs.declared.Statistic.the-variants.{Value, Absent}
 use Rattle.size.specs.declared.Corrected.{Corrected}
 use Rattle.size.specs.declared.Corrected.the-variants.{Sigma, NoSize}
 use Rattle.size.specs.declared.Correction.{Correction}

@@ -3,10 +3,10 @@ ghost use mathlib.Core.Path.{_≡_};
 ghost use Rattle.size.specs.Correct.{geometryOf, noBlend, blendOf, betaOf, blendBetaOf, boundedOf, weightOf, signedRoot, modelOf, proposalOf, modelMoveOf, derivativeOf, rightPolarity, placeOf, sigmaAt, accepted, gainOf, gained, flatter, better, chosenOf, trusted, inRange, movedOf, correctedOf};
 use crate::Corrected;
 use crate::Geometry;
-use crate::Statistic;
-use crate::profile::profile_compatibility_statistic;
 use fit::scale_fit::compute_geometry_poly_coeffs;
 use fit::scale_fit::curvature;
+use profile::Statistic;
+use profile::profile_compatibility_statistic;
 use tables::Set;
 
 // The set's geometry numbers by name.

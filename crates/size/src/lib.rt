@@ -6,14 +6,6 @@ use tables::Refusal;
 use tables::Set;
 
 pub mod anchor;
-mod four;
-pub mod profile;
-
-// The profile statistic: a number or its absence.
-pub enum Statistic {
-    Value(f32),
-    Absent,
-}
 
 // What the inner correction answers: a corrected sigma or its absence.
 pub enum Corrected {

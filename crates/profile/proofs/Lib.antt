@@ -1,0 +1,2 @@
+-- The law of the profile statistic.
+pub mod ZeroSign

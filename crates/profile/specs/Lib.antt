@@ -1,0 +1,3 @@
+-- What the profile statistic computes.
+pub mod Four
+pub mod Profile
