@@ -6,7 +6,7 @@ ghost use Rattle.profile.specs.Four.{squaresOf, lessOf, overOf, rootsOf,
 pub fn squares(v: [f32; 4]) -> [f32; 4]
     ensures { λ r. ⌜ r ≡ squaresOf v ⌝ }
 {
-    [v[0] * v[0], v[1] * v[1], v[2] * v[2], v[3] * v[3]]
+    products(v, v)
 }
 
 // Each less m.

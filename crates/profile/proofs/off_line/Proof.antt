@@ -16,7 +16,7 @@ ratio-requires : tie.Need-ratio-requires
 ratio-requires c κs = search needs
 
 returns : tie.Need-returns
-returns c = cc
+returns c = rw (← c .before .before .before .residual .ensures, ← c .before .before .energy .ensures, ← c .before .energy2 .ensures, ← c .ratio .ensures)
 
 pub off-line-spec : {M : Type 1} → statement M
 off-line-spec =

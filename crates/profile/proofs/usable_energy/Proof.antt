@@ -15,7 +15,7 @@ is-finite-requires-3 c κs = search needs
 
 returns : tie.Need-returns
 unfolding usableEnergy
-returns c = cc
+returns c = rw (← c .before .before .is-finite .ensures, ← c .before .is-finite2 .ensures, ← c .is-finite3 .ensures)
 
 pub usable-energy-spec : {M : Type 1} → statement M
 usable-energy-spec =

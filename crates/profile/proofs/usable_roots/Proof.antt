@@ -18,7 +18,7 @@ all-usable-requires-3 c κs = search needs
 
 returns : tie.Need-returns
 unfolding usableRoots
-returns c = cc
+returns c = rw (← c .before .before .before .all-usable .ensures, ← c .before .before .all-usable2 .ensures, ← c .before .is-finite .ensures, ← c .all-usable3 .ensures)
 
 pub usable-roots-spec : {M : Type 1} → statement M
 usable-roots-spec =

@@ -15,7 +15,7 @@ all-below-requires c κs = search needs
 
 returns : tie.Need-returns
 unfolding usableSamples
-returns c = cc
+returns c = rw (← c .before .before .all-finite .ensures, ← c .before .all-above .ensures, ← c .all-below .ensures)
 
 pub usable-samples-spec : {M : Type 1} → statement M
 usable-samples-spec =

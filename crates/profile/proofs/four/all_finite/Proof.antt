@@ -30,7 +30,7 @@ is-finite-requires-4 c κs = search needs
 
 returns : tie.Need-returns
 unfolding allFinite
-returns c = cc
+returns c = rw (← c .before .before .before .is-finite .ensures, ← c .before .before .is-finite2 .ensures, ← c .before .is-finite3 .ensures, ← c .is-finite4 .ensures)
 
 pub all-finite-spec : {M : Type 1} → statement M
 all-finite-spec =

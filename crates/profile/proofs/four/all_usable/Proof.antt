@@ -30,7 +30,7 @@ is-usable-requires-4 c κs = search needs
 
 returns : tie.Need-returns
 unfolding allUsable
-returns c = cc
+returns c = rw (← c .before .before .before .is-usable .ensures, ← c .before .before .is-usable2 .ensures, ← c .before .is-usable3 .ensures, ← c .is-usable4 .ensures)
 
 pub all-usable-spec : {M : Type 1} → statement M
 all-usable-spec =

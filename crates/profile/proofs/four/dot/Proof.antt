@@ -12,7 +12,7 @@ profile-sum4-requires c κs = search needs
 
 returns : tie.Need-returns
 unfolding dotOf
-returns c = cc
+returns c = rw (← c .before .products .ensures, ← c .profile-sum4 .ensures)
 
 pub dot-spec : {M : Type 1} → statement M
 dot-spec = tie.close (tie.spec products-requires profile-sum4-requires returns)

@@ -12,7 +12,7 @@ profile-sum4-requires c κs = search needs
 
 returns : tie.Need-returns
 unfolding energyOf
-returns c = cc
+returns c = rw (← c .before .squares .ensures, ← c .profile-sum4 .ensures)
 
 pub energy-spec : {M : Type 1} → statement M
 energy-spec = tie.close (tie.spec squares-requires profile-sum4-requires returns)

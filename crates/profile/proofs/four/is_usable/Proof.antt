@@ -9,7 +9,7 @@ is-finite-requires c κs = search needs
 
 returns : tie.Need-returns
 unfolding usable
-returns c = cc
+returns c = rw (← c .is-finite .ensures)
 
 pub is-usable-spec : {M : Type 1} → statement M
 is-usable-spec = tie.close (tie.spec is-finite-requires returns)

@@ -27,7 +27,7 @@ max-requires-3 c κs = search needs
 
 returns : tie.Need-returns
 unfolding largestBy
-returns c = cc
+returns c = rw (← c .before .before .max .ensures, ← c .before .max2 .ensures, ← c .max3 .ensures)
 
 pub largest-spec : {M : Type 1} → statement M
 largest-spec =

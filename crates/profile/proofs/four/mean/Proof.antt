@@ -9,7 +9,7 @@ profile-sum4-requires c κs = search needs
 
 returns : tie.Need-returns
 unfolding meanOf
-returns c = cc
+returns c = rw (← c .profile-sum4 .ensures)
 
 pub mean-spec : {M : Type 1} → statement M
 mean-spec = tie.close (tie.spec profile-sum4-requires returns)

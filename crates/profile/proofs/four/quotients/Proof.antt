@@ -42,7 +42,7 @@ abs-requires-4 c κs = search needs
 
 returns : tie.Need-returns
 unfolding quotientsOf
-returns c = cc
+returns c = rw (← c .before .before .before .abs .ensures, ← c .before .before .abs2 .ensures, ← c .before .abs3 .ensures, ← c .abs4 .ensures)
 
 pub quotients-spec : {M : Type 1} → statement M
 quotients-spec =

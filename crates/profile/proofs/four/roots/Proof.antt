@@ -30,7 +30,7 @@ sqrt-requires-4 c κs = search needs
 
 returns : tie.Need-returns
 unfolding rootsOf
-returns c = cc
+returns c = rw (← c .before .before .before .sqrt .ensures, ← c .before .before .sqrt2 .ensures, ← c .before .sqrt3 .ensures, ← c .sqrt4 .ensures)
 
 pub roots-spec : {M : Type 1} → statement M
 roots-spec =

@@ -12,7 +12,7 @@ less-requires c κs = search needs
 
 returns : tie.Need-returns
 unfolding spreadOf
-returns c = cc
+returns c = rw (← c .before .mean .ensures, ← c .less .ensures)
 
 pub spread-spec : {M : Type 1} → statement M
 spread-spec = tie.close (tie.spec mean-requires less-requires returns)

@@ -15,7 +15,7 @@ array-read-result c = search needs
 
 returns : tie.Need-returns
 unfolding gainOf
-returns c = cc
+returns c = rw (← c .before .derivative .ensures, ← c .curvature .ensures)
 
 pub gain-over-spec : {M : Type 1} → statement M
 gain-over-spec = tie.close (tie.spec derivative-requires curvature-requires array-read-result returns)

@@ -12,7 +12,7 @@ is-finite-requires-2 c κs = search needs
 
 returns : tie.Need-returns
 unfolding accepted
-returns c = cc
+returns c = rw (← c .before .before .before .before .before .is-finite .ensures, ← c .before .before .before .before .is-finite2 .ensures)
 
 pub is-accepted-spec : {M : Type 1} → statement M
 is-accepted-spec = tie.close (tie.spec is-finite-requires is-finite-requires-2 returns)

@@ -33,7 +33,7 @@ has-gained-requires c κs = search needs
 
 returns : tie.Need-returns
 unfolding better
-returns c = cc
+returns c = rw (← c .before .before .before .before .before .before .before .before .sigma-at .ensures, ← c .before .before .before .before .before .before .before .is-accepted .ensures, ← c .before .before .before .before .before .before .derivative .ensures, ← c .before .before .before .before .before .derivative2 .ensures, ← c .before .before .before .before .is-flatter .ensures, ← c .before .before .before .curvature .ensures, ← c .before .before .is-right-polarity .ensures, ← c .before .gain-over .ensures, ← c .has-gained .ensures)
 
 pub is-better-spec : {M : Type 1} → statement M
 is-better-spec =

@@ -18,7 +18,7 @@ abs-requires-2 c κs = search needs
 
 returns : tie.Need-returns
 unfolding flatter
-returns c = cc
+returns c = rw (← c .before .before .before .is-finite .ensures, ← c .before .before .is-finite2 .ensures, ← c .before .abs .ensures, ← c .abs2 .ensures)
 
 pub is-flatter-spec : {M : Type 1} → statement M
 is-flatter-spec =

@@ -12,7 +12,7 @@ is-accepted-requires c κs = search needs
 
 returns : tie.Need-returns
 unfolding inRange
-returns c = cc
+returns c = rw (← c .before .is-finite .ensures, ← c .is-accepted .ensures)
 
 pub is-in-range-spec : {M : Type 1} → statement M
 is-in-range-spec = tie.close (tie.spec is-finite-requires is-accepted-requires returns)

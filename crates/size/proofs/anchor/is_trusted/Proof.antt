@@ -18,7 +18,7 @@ is-right-polarity-requires c κs = search needs
 
 returns : tie.Need-returns
 unfolding trusted
-returns c = cc
+returns c = rw (← c .before .before .before .is-finite .ensures, ← c .before .before .is-finite2 .ensures, ← c .before .is-finite3 .ensures, ← c .is-right-polarity .ensures)
 
 pub is-trusted-spec : {M : Type 1} → statement M
 is-trusted-spec =

@@ -9,7 +9,7 @@ signed-root-requires c κs = search needs
 
 returns : tie.Need-returns
 unfolding modelOf
-returns c = cc
+returns c = rw (← c .signed-root .ensures)
 
 pub model-spec : {M : Type 1} → statement M
 model-spec = tie.close (tie.spec signed-root-requires returns)

@@ -12,7 +12,7 @@ is-finite-requires-2 c κs = search needs
 
 returns : tie.Need-returns
 unfolding noBlend
-returns c = cc
+returns c = rw (← c .before .before .before .is-finite .ensures, ← c .before .is-finite2 .ensures)
 
 pub no-blend-spec : {M : Type 1} → statement M
 no-blend-spec = tie.close (tie.spec is-finite-requires is-finite-requires-2 returns)

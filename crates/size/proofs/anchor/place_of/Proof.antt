@@ -9,7 +9,7 @@ log2-requires c κs = search needs
 
 returns : tie.Need-returns
 unfolding placeOf
-returns c = cc
+returns c = rw (← c .log2 .ensures)
 
 pub place-of-spec : {M : Type 1} → statement M
 place-of-spec = tie.close (tie.spec log2-requires returns)

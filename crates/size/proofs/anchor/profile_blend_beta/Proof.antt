@@ -12,7 +12,7 @@ profile-beta-from-statistic-requires c κs = search needs
 
 returns : tie.Need-returns
 unfolding blendBetaBy
-returns c = cc
+returns c = rw (← c .before .profile-compatibility-statistic .ensures, ← c .profile-beta-from-statistic .ensures)
 
 pub profile-blend-beta-spec : {M : Type 1} → statement M
 profile-blend-beta-spec =

@@ -9,7 +9,7 @@ clamp-requires c κs = search needs
 
 returns : tie.Need-returns
 unfolding boundedOf
-returns c = cc
+returns c = rw (← c .clamp .ensures)
 
 pub profile-bounded-move-spec : {M : Type 1} → statement M
 profile-bounded-move-spec = tie.close (tie.spec clamp-requires returns)

@@ -9,7 +9,7 @@ clamp-requires c κs = search needs
 
 returns : tie.Need-returns
 unfolding weightOf
-returns c = cc
+returns c = rw (← c .clamp .ensures)
 
 pub weight-spec : {M : Type 1} → statement M
 weight-spec = tie.close (tie.spec clamp-requires returns)
