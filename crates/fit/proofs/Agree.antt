@@ -11,7 +11,7 @@ use Rattle.float.specs.Small.{absOf, maxOf}
 use Rattle.float.specs.Num.{f0, f1e-6}
 use Rattle.fit.specs.Cubic.{_at_, coeffsOf, discriminantOf}
 use Rattle.fit.specs.Envelope.{within, putLow, putHigh, turnOf, firstOf, secondOf, turnsOf, shapeBy, shapeOf, envelopeBy, envelopeOf}
-use Rattle.fit.specs.Extrema.{loweredOf, raisedOf, singleOf, extremaOf}
+use Rattle.fit.specs.Extrema.{loweredOf, raisedOf, singleOf, bothOf, extremaOf}
 use Rattle.fit.specs.declared.Envelope.{Envelope}
 
 -- ---- signs
@@ -95,7 +95,7 @@ module _ (k g : List Float) (s : Float) (e : Envelope) where
 -- ---- the whole
 
 pub envelopes-agree : (k g : List Float) (l0 l3 : Float) → shapeOf k g l0 l3 ≡ extremaOf k g l0 l3
-unfolding shapeBy turnsOf firstOf secondOf extremaOf
+unfolding shapeBy turnsOf firstOf secondOf extremaOf bothOf
 envelopes-agree k g l0 l3 = by (lt f1e-6 (absOf (k at 0))) refl (lt f0 (discriminantOf k)) refl (lt f1e-6 (absOf (k at 1))) refl where
   by : (t : Bool) → lt f1e-6 (absOf (k at 0)) ≡ t → (u : Bool) → lt f0 (discriminantOf k) ≡ u → (v : Bool) → lt f1e-6 (absOf (k at 1)) ≡ v →
       shapeOf k g l0 l3 ≡ extremaOf k g l0 l3

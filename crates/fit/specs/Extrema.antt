@@ -32,16 +32,21 @@ singleOf k g s e =
     let low = putLow (lt f0 (k at 1) && lt f0 c && lt v (e .emin)) v s e in
     cond (within (g at 0) (g at 3) s && finite c && finite v) (putHigh (lt (k at 1) f0 && lt c f0 && lt (low .emax) v) v s low) e
 
+-- the envelope with the two stationary points of a cubic, where it has them
+unfoldable pub bothOf : List Float → List Float → Envelope → Envelope
+bothOf k g e =
+    let ap = f6 ⊗ k at 0 in
+    let bp = f2 ⊗ k at 1 in
+    cond
+    (lt f0 (discriminantOf k))
+    (raisedOf k g ((neg bp ⊖ sqrtOf (discriminantOf k)) ⊘ ap) (loweredOf k g ((neg bp ⊕ sqrtOf (discriminantOf k)) ⊘ ap) e))
+    e
+
 -- of the cubic k, the sigmas g and the end samples
 unfoldable pub extremaOf : List Float → List Float → Float → Float → Envelope
 extremaOf k g l0 l3 =
     let e = endsBy ours l0 l3 in
-    let ap = f6 ⊗ k at 0 in
-    let bp = f2 ⊗ k at 1 in
     cond
     (lt f1e-6 (absOf (k at 0)))
-    (cond
-    (lt f0 (discriminantOf k))
-    (raisedOf k g ((neg bp ⊖ sqrtOf (discriminantOf k)) ⊘ ap) (loweredOf k g ((neg bp ⊕ sqrtOf (discriminantOf k)) ⊘ ap) e))
-    e)
+    (bothOf k g e)
     (cond (lt f1e-6 (absOf (k at 1))) (singleOf k g (neg (k at 2) ⊘ (f2 ⊗ k at 1)) e) e)

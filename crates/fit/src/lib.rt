@@ -1,5 +1,6 @@
 // One pixel's numbers: its cubics, its envelope, a cubic's extreme over a band. Each function follows the published Rust's operations
 // one by one, each rounded once; the definitions are in specs/.
+mod points;
 pub mod reference;
 pub mod scale_fit;
 pub mod stream;

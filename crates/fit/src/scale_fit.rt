@@ -2,28 +2,42 @@
 // the extremum.
 use crate::Band;
 use crate::Stationary;
+use crate::points::first_of;
+use crate::points::is_cubic;
+use crate::points::is_quadratic;
+use crate::points::second_of;
 use tables::Set;
 ghost use mathlib.Core.Path.{_≡_};
 ghost use mathlib.Core.Bool.{cond, not};
+ghost use Prim.Native.Nat.{_≤_};
 ghost use lib.Ieee.{nan, lt};
 ghost use Rattle.float.specs.Num.{f0};
 ghost use Rattle.fit.specs.Prims.{ours};
-ghost use Rattle.fit.specs.Cubic.{coeffsOf, hornerOf, discriminantOf, curvatureOf, bendsOf};
+ghost use Rattle.fit.specs.Cubic.{rowOf, coeffsOf, hornerOf, discriminantOf, curvatureOf, bendsOf};
 ghost use Rattle.fit.specs.Band.{bandOf, finiteCubic, signOf, stationaryOf, betterBy, extremeOf};
 ghost use Rattle.fit.specs.Owns.{ownsOf};
+
+// Three entries of a table, from the i-th on, weighing the three differences.
+fn row(transform: &[f32; 12], i: usize, d0: f32, d1: f32, d2: f32) -> f32
+    requires { ⌜ i ≤ 9 ⌝ }
+    ensures { λ r. ⌜ r ≡ rowOf (now (transform .entry)) i d0 d1 d2 ⌝ }
+{
+    transform[i] * d0 + transform[i + 1] * d1 + transform[i + 2] * d2
+}
 
 // The coefficients a, b, c, d that a table of four rows of three entries makes of the samples.
 pub fn apply_cubic_transform(transform: &[f32; 12], samples: [f32; 4]) -> [f32; 4]
     ensures { λ r. ⌜ r ≡ coeffsOf (now (transform .entry)) samples ⌝ }
 {
-    let d0 = samples[0] - samples[3];
-    let d1 = samples[1] - samples[3];
-    let d2 = samples[2] - samples[3];
+    let last = samples[3];
+    let d0 = samples[0] - last;
+    let d1 = samples[1] - last;
+    let d2 = samples[2] - last;
     [
-        transform[0] * d0 + transform[1] * d1 + transform[2] * d2,
-        transform[3] * d0 + transform[4] * d1 + transform[5] * d2,
-        transform[6] * d0 + transform[7] * d1 + transform[8] * d2,
-        transform[9] * d0 + transform[10] * d1 + transform[11] * d2 + samples[3],
+        row(transform, 0, d0, d1, d2),
+        row(transform, 3, d0, d1, d2),
+        row(transform, 6, d0, d1, d2),
+        row(transform, 9, d0, d1, d2) + last,
     ]
 }
 
@@ -106,18 +120,15 @@ fn opens(b: f32, is_max: bool) -> bool
 fn stationary(k: [f32; 4], is_max: bool) -> Stationary
     ensures { λ r. ⌜ r ≡ stationaryOf k «is_max» ⌝ }
 {
-    let a = k[0];
-    let b = k[1];
-    let c = k[2];
-    if float::abs(a) > 1e-6 {
+    if is_cubic(k) {
         let d = discriminant(k);
         if d > 0.0 {
-            return Stationary::At((-(2.0 * b) - sign_of(is_max) * float::sqrt(d)) / (6.0 * a));
+            return Stationary::At(second_of(k, sign_of(is_max) * float::sqrt(d)));
         }
         return Stationary::Nowhere;
     }
-    if (float::abs(b) > 1e-6) & opens(b, is_max) {
-        return Stationary::At(-c / (2.0 * b));
+    if is_quadratic(k) & opens(k[1], is_max) {
+        return Stationary::At(first_of(k, true, 0.0));
     }
     Stationary::Nowhere
 }
@@ -161,9 +172,13 @@ pub fn band_extreme(k: [f32; 4], low: f32, high: f32, is_max: bool) -> f32
 pub fn owns_scale_extremum(samples: [f32; 4], is_max: bool) -> bool
     ensures { λ r. ⌜ r ≡ ownsOf samples «is_max» ⌝ }
 {
+    let low = samples[0];
+    let first = samples[1];
+    let second = samples[2];
+    let high = samples[3];
     if is_max {
-        float::max(samples[1], samples[2]) > float::max(samples[0], samples[3])
+        float::max(first, second) > float::max(low, high)
     } else {
-        float::min(samples[1], samples[2]) < float::min(samples[0], samples[3])
+        float::min(first, second) < float::min(low, high)
     }
 }

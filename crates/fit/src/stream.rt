@@ -1,5 +1,10 @@
 // The envelope of four samples as the streaming pass has it. Each test is a value and each choice a select: no function here returns early.
 use crate::Envelope;
+use crate::points::first_of;
+use crate::points::is_cubic;
+use crate::points::is_inside;
+use crate::points::is_quadratic;
+use crate::points::second_of;
 use crate::scale_fit::apply_cubic_transform;
 use crate::scale_fit::curvature;
 use crate::scale_fit::discriminant;
@@ -9,7 +14,7 @@ ghost use mathlib.Core.Bool.{cond};
 ghost use lib.Ieee.{lt};
 ghost use Rattle.float.specs.Num.{f0};
 ghost use Rattle.fit.specs.Prims.{ours};
-ghost use Rattle.fit.specs.Envelope.{within, endsBy, putLow, putHigh, turnOf, firstOf, secondOf, turnsOf, shapeOf, envelopeOf};
+ghost use Rattle.fit.specs.Envelope.{within, endsBy, putLow, putHigh, turnOf, turnsOf, shapeOf, envelopeOf};
 
 // s lies in the closed range.
 pub fn is_within(low: f32, high: f32, s: f32) -> bool
@@ -62,12 +67,6 @@ pub fn put_high(test: bool, v: f32, s: f32, e: Envelope) -> Envelope
     }
 }
 
-fn pick(test: bool, x: f32, y: f32) -> f32
-    ensures { λ r. ⌜ r ≡ cond test x y ⌝ }
-{
-    if test { x } else { y }
-}
-
 // A curvature c is that of a minimum, or of a maximum.
 fn curves(c: f32, is_min: bool) -> bool
     ensures { λ r. ⌜ r ≡ cond «is_min» (lt f0 c) (lt c f0) ⌝ }
@@ -86,31 +85,17 @@ fn turn(k: [f32; 4], s: f32, ok: bool, is_min: bool, e: Envelope) -> Envelope
     put_high(valid & !is_min & (value > e.emax), value, s, low)
 }
 
-// The quadratic's stationary point, or the cubic's first: one division serves both.
-fn first_of(k: [f32; 4], quadratic: bool, root: f32) -> f32
-    ensures { λ r. ⌜ r ≡ firstOf k quadratic root ⌝ }
-{
-    let bp = 2.0 * k[1];
-    pick(quadratic, -k[2], -bp + root) / pick(quadratic, bp, 6.0 * k[0])
-}
-
-fn second_of(k: [f32; 4], root: f32) -> f32
-    ensures { λ r. ⌜ r ≡ secondOf k root ⌝ }
-{
-    (-(2.0 * k[1]) - root) / (6.0 * k[0])
-}
-
 // The envelope e with both stationary points.
 fn turns(k: [f32; 4], sigmas: [f32; 4], root: f32, e: Envelope) -> Envelope
     ensures { λ r. ⌜ r ≡ turnsOf k sigmas root e ⌝ }
 {
-    let cubic = float::abs(k[0]) > 1e-6;
-    let quadratic = !cubic & (float::abs(k[1]) > 1e-6);
+    let cubic = is_cubic(k);
+    let quadratic = !cubic & is_quadratic(k);
     let roots = cubic & (discriminant(k) > 0.0);
     let first = first_of(k, quadratic, root);
     let second = second_of(k, root);
-    let first_ok = (roots | quadratic) & is_within(sigmas[0], sigmas[3], first);
-    let second_ok = roots & is_within(sigmas[0], sigmas[3], second);
+    let first_ok = (roots | quadratic) & is_inside(sigmas, first);
+    let second_ok = roots & is_inside(sigmas, second);
     let one = turn(k, first, first_ok, !quadratic | (k[1] > 0.0), e);
     turn(k, second, second_ok, false, one)
 }

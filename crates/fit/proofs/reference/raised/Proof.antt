@@ -9,14 +9,8 @@ horner-requires c κs = search needs
 curvature-requires : tie.Need-curvature-requires
 curvature-requires c κs = search needs
 
-array-read-is-within : tie.Need-array-read-is-within
-array-read-is-within c = search needs
-
-array-read-is-within-2 : tie.Need-array-read-is-within-2
-array-read-is-within-2 c = search needs
-
-is-within-requires : tie.Need-is-within-requires
-is-within-requires c κs = search needs
+is-inside-requires : tie.Need-is-inside-requires
+is-inside-requires c κs = search needs
 
 is-finite-requires : tie.Need-is-finite-requires
 is-finite-requires c κs = search needs
@@ -29,18 +23,7 @@ put-high-requires c κs = search needs
 
 returns : tie.Need-returns
 unfolding raisedOf
-returns c = rw (← c .before .before .before .before .before .before .horner .ensures, ← c .before .before .before .before .before .curvature .ensures, ← c .before .before .before .before .is-within .ensures, ← c .before .before .before .is-finite .ensures, ← c .before .before .is-finite2 .ensures, ← c .put-high .ensures)
+returns c = rw (← c .before .before .before .before .before .before .horner .ensures, ← c .before .before .before .before .before .curvature .ensures, ← c .before .before .before .before .is-inside .ensures, ← c .before .before .before .is-finite .ensures, ← c .before .before .is-finite2 .ensures, ← c .put-high .ensures)
 
 pub raised-spec : {M : Type 1} → statement M
-raised-spec =
-    tie.close
-    (tie.spec
-    horner-requires
-    curvature-requires
-    array-read-is-within
-    array-read-is-within-2
-    is-within-requires
-    is-finite-requires
-    is-finite-requires-2
-    put-high-requires
-    returns)
+raised-spec = tie.close (tie.spec horner-requires curvature-requires is-inside-requires is-finite-requires is-finite-requires-2 put-high-requires returns)

@@ -15,14 +15,8 @@ curvature-requires c κs = search needs
 put-low-requires : tie.Need-put-low-requires
 put-low-requires c κs = search needs
 
-array-read-is-within : tie.Need-array-read-is-within
-array-read-is-within c = search needs
-
-array-read-is-within-2 : tie.Need-array-read-is-within-2
-array-read-is-within-2 c = search needs
-
-is-within-requires : tie.Need-is-within-requires
-is-within-requires c κs = search needs
+is-inside-requires : tie.Need-is-inside-requires
+is-inside-requires c κs = search needs
 
 is-finite-requires : tie.Need-is-finite-requires
 is-finite-requires c κs = search needs
@@ -35,25 +29,11 @@ put-high-requires c κs = search needs
 
 returns : tie.Need-returns
 unfolding singleOf
-returns c = rw (← c .before .before .before .before .before .before .before .before .before .horner .ensures, ← c .before .before .before .before .before .before .before .before .curvature .ensures, ← c .before .before .before .before .before .before .put-low .ensures, ← c .before .before .before .before .before .is-within .ensures, ← c .before .before .before .before .is-finite .ensures, ← c .before .before .before .is-finite2 .ensures, c .before .before .if1 .taken, ← c .put-high .ensures)
+returns c = rw (← c .before .before .before .before .before .before .before .before .before .horner .ensures, ← c .before .before .before .before .before .before .before .before .curvature .ensures, ← c .before .before .before .before .before .before .put-low .ensures, ← c .before .before .before .before .before .is-inside .ensures, ← c .before .before .before .before .is-finite .ensures, ← c .before .before .before .is-finite2 .ensures, c .before .before .if1 .taken, ← c .put-high .ensures)
 
 returns-2 : tie.Need-returns-2
 unfolding singleOf
-returns-2 c = rw (← c .before .before .before .before .before .before .before .horner .ensures, ← c .before .before .before .before .before .before .curvature .ensures, ← c .before .before .before .before .put-low .ensures, ← c .before .before .before .is-within .ensures, ← c .before .before .is-finite .ensures, ← c .before .is-finite2 .ensures, c .if1 .left)
+returns-2 c = rw (← c .before .before .before .before .before .before .before .horner .ensures, ← c .before .before .before .before .before .before .curvature .ensures, ← c .before .before .before .before .put-low .ensures, ← c .before .before .before .is-inside .ensures, ← c .before .before .is-finite .ensures, ← c .before .is-finite2 .ensures, c .if1 .left)
 
 pub single-spec : {M : Type 1} → statement M
-single-spec =
-    tie.close
-    (tie.spec
-    array-read-b
-    horner-requires
-    curvature-requires
-    put-low-requires
-    array-read-is-within
-    array-read-is-within-2
-    is-within-requires
-    is-finite-requires
-    is-finite-requires-2
-    put-high-requires
-    returns
-    returns-2)
+single-spec = tie.close (tie.spec array-read-b horner-requires curvature-requires put-low-requires is-inside-requires is-finite-requires is-finite-requires-2 put-high-requires returns returns-2)

@@ -17,7 +17,7 @@ min-requires c κs = search needs
 
 returns : tie.Need-returns
 unfolding bandBy
-returns c = cc
+returns c = rw (← c .before .max .ensures, ← c .min .ensures)
 
 pub neighbor-scale-band-spec : {M : Type 1} → statement M
 neighbor-scale-band-spec =

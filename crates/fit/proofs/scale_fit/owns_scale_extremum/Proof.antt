@@ -3,38 +3,26 @@ use borrow.Author.Needs.{needs}
 use Rattle.fit.proofs.scale_fit.owns_scale_extremum.Statement.{statement}
 use Rattle.fit.proofs.scale_fit.owns_scale_extremum.Tie as tie
 
-array-read-max : tie.Need-array-read-max
-array-read-max c = search needs
+array-read-low : tie.Need-array-read-low
+array-read-low c = search needs
 
-array-read-max-2 : tie.Need-array-read-max-2
-array-read-max-2 c = search needs
+array-read-first : tie.Need-array-read-first
+array-read-first c = search needs
+
+array-read-second : tie.Need-array-read-second
+array-read-second c = search needs
+
+array-read-high : tie.Need-array-read-high
+array-read-high c = search needs
 
 max-requires : tie.Need-max-requires
 max-requires c κs = search needs
 
-array-read-max-3 : tie.Need-array-read-max-3
-array-read-max-3 c = search needs
-
-array-read-max-4 : tie.Need-array-read-max-4
-array-read-max-4 c = search needs
-
 max-requires-2 : tie.Need-max-requires-2
 max-requires-2 c κs = search needs
 
-array-read-min : tie.Need-array-read-min
-array-read-min c = search needs
-
-array-read-min-2 : tie.Need-array-read-min-2
-array-read-min-2 c = search needs
-
 min-requires : tie.Need-min-requires
 min-requires c κs = search needs
-
-array-read-min-3 : tie.Need-array-read-min-3
-array-read-min-3 c = search needs
-
-array-read-min-4 : tie.Need-array-read-min-4
-array-read-min-4 c = search needs
 
 min-requires-2 : tie.Need-min-requires-2
 min-requires-2 c κs = search needs
@@ -48,20 +36,4 @@ unfolding ownsBy
 returns-2 c = rw (c .min2 .ensures, c .before .min .ensures, c .before .before .if1 .left)
 
 pub owns-scale-extremum-spec : {M : Type 1} → statement M
-owns-scale-extremum-spec =
-    tie.close
-    (tie.spec
-    array-read-max
-    array-read-max-2
-    max-requires
-    array-read-max-3
-    array-read-max-4
-    max-requires-2
-    array-read-min
-    array-read-min-2
-    min-requires
-    array-read-min-3
-    array-read-min-4
-    min-requires-2
-    returns
-    returns-2)
+owns-scale-extremum-spec = tie.close (tie.spec array-read-low array-read-first array-read-second array-read-high max-requires max-requires-2 min-requires min-requires-2 returns returns-2)

@@ -11,7 +11,7 @@ max-requires c κs = search needs
 
 returns : tie.Need-returns
 unfolding endsBy
-returns c = cc
+returns c = rw (← c .before .min .ensures, ← c .max .ensures)
 
 pub ends-spec : {M : Type 1} → statement M
 ends-spec = tie.close (tie.spec min-requires max-requires returns)

@@ -17,7 +17,7 @@ shape-requires c κs = search needs
 
 returns : tie.Need-returns
 unfolding envelopeBy
-returns c = cc
+returns c = rw (← c .before .apply-cubic-transform .ensures, ← c .shape .ensures)
 
 pub scale-envelope-spec : {M : Type 1} → statement M
 scale-envelope-spec =

@@ -1,8 +1,8 @@
 use mathlib.Core.Path.{refl}
 use Rattle.fit.specs.Envelope.{secondOf}
 use borrow.Author.Needs.{needs}
-use Rattle.fit.proofs.stream.second_of.Statement.{statement}
-use Rattle.fit.proofs.stream.second_of.Tie as tie
+use Rattle.fit.proofs.points.second_of.Statement.{statement}
+use Rattle.fit.proofs.points.second_of.Tie as tie
 
 array-read-result : tie.Need-array-read-result
 array-read-result c = search needs

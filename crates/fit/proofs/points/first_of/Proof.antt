@@ -4,8 +4,8 @@ use lib.Ieee.{Float}
 use Rattle.float.specs.Num.{_⊘_}
 use Rattle.fit.specs.Envelope.{firstOf}
 use borrow.Author.Needs.{needs}
-use Rattle.fit.proofs.stream.first_of.Statement.{statement}
-use Rattle.fit.proofs.stream.first_of.Tie as tie
+use Rattle.fit.proofs.points.first_of.Statement.{statement}
+use Rattle.fit.proofs.points.first_of.Tie as tie
 
 -- a quotient of choices is the choice of the quotients
 over : (q : Bool) (x y z w : Float) → cond q x z ⊘ cond q y w ≡ cond q (x ⊘ y) (z ⊘ w)
