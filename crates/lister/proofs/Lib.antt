@@ -1,4 +1,3 @@
 -- What the functions' proofs cite, and what the list program's promise settles.
-pub mod TextLaws
 pub mod InputLaws
 pub mod OutputLaws

@@ -23,9 +23,9 @@ use Rattle.alp.specs.declared.Answer.the-variants.{Found, Refused}
 use Rattle.alp.proofs.RefusalsLaws.{first-answered as detect-refuses, none-found as detect-finds}
 use Rattle.alp.proofs.Promise.{answer-same, first-written}
 use Rattle.lister.specs.Input.{setFrom, thresholdsFrom, rowsFrom, colsFrom, octaveFrom, areaFrom, levelFrom, listChecks, detectFrom, mapsFrom}
-use Rattle.lister.specs.Text.{linesOf, linesIn, foundLine, refusedLine, Wrote}
+use Rattle.text.specs.Text.{linesOf, linesIn, foundLine, refusedLine, Wrote}
 use Rattle.lister.specs.Output.{mostShown, printed, tileOutput, checkedOutput, listOutput, Begins}
-use Rattle.lister.proofs.TextLaws.{lines-of-bytes}
+use Rattle.text.proofs.TextLaws.{lines-of-bytes}
 
 -- text that was written from the start on
 pub wrote-begins : {out out' : List ℕ} {r : ℕ} {text : List ℕ} → Wrote out out' 0 r text → Begins out' r text

@@ -11,7 +11,7 @@ use Rattle.alp.specs.Due.{due}
 use Rattle.alp.specs.declared.Answer.{Answer}
 use Rattle.alp.specs.declared.Answer.the-variants.{Found, Refused}
 use Rattle.lister.specs.Input.{listChecks, detectFrom, mapsFrom}
-use Rattle.lister.specs.Text.{linesOf, foundLine, refusedLine}
+use Rattle.text.specs.Text.{linesOf, foundLine, refusedLine}
 
 -- how many records are printed at most
 abbrev pub mostShown : ℕ

@@ -1,6 +1,5 @@
 // The list program's work on bytes: from its input to its output.
 mod input; // input.rt: what is read of the input
-mod text; // text.rt: what is written to the output
 
 ghost use mathlib.Core.Path.{_≡_};
 ghost use Prim.Native.Nat.{min};

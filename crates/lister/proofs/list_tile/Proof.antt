@@ -1,6 +1,6 @@
 -- `list_tile` meets its contract.
 use native.Mathlib.Omega.{arith}
-use Rattle.lister.proofs.TextLaws.{wrote-append}
+use Rattle.text.proofs.TextLaws.{wrote-append}
 use Rattle.lister.proofs.OutputLaws.{wrote-begins, tile-found, tile-refused}
 use borrow.Author.Needs.{needs}
 use Prim.Native.Nat.{ℕ}

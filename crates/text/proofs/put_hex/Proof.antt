@@ -1,9 +1,9 @@
--- `text::put_hex` meets its contract.
-use Rattle.lister.specs.Text.{hexOf}
-use Rattle.lister.proofs.TextLaws.{wrote-append}
+-- `put_hex` meets its contract.
+use Rattle.text.specs.Text.{hexOf}
+use Rattle.text.proofs.TextLaws.{wrote-append}
 use borrow.Author.Needs.{needs}
-use Rattle.lister.proofs.text.put_hex.Statement.{statement}
-use Rattle.lister.proofs.text.put_hex.Tie as tie
+use Rattle.text.proofs.put_hex.Statement.{statement}
+use Rattle.text.proofs.put_hex.Tie as tie
 
 hex-digit-requires : tie.Need-hex-digit-requires
 hex-digit-requires c κs = search needs

@@ -4,7 +4,7 @@ ghost use mathlib.Core.List.{[], _∷_};
 ghost use Prim.Native.Nat.{_+_, _*_, _<_, _≤_};
 ghost use lib.ListN.{length, take, drop};
 ghost use Rattle.record.specs.Layout.{spotWidth};
-ghost use Rattle.lister.specs.Text.{lineWidth, hexDigit, hexOf, lineOf, linesIn, decimal, foundLine, refusedLine, Wrote};
+ghost use Rattle.text.specs.Text.{lineWidth, hexDigit, hexOf, lineOf, linesIn, decimal, foundLine, refusedLine, Wrote};
 use record::SPOT_WIDTH;
 
 // One byte.

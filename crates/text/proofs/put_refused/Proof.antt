@@ -1,9 +1,9 @@
--- `text::put_found` meets its contract.
-use Rattle.lister.specs.Text.{foundLine}
-use Rattle.lister.proofs.TextLaws.{wrote-append}
+-- `put_refused` meets its contract.
+use Rattle.text.specs.Text.{refusedLine}
+use Rattle.text.proofs.TextLaws.{wrote-append}
 use borrow.Author.Needs.{needs}
-use Rattle.lister.proofs.text.put_found.Statement.{statement}
-use Rattle.lister.proofs.text.put_found.Tie as tie
+use Rattle.text.proofs.put_refused.Statement.{statement}
+use Rattle.text.proofs.put_refused.Tie as tie
 
 slice-aggregate-put-text : tie.Need-slice-aggregate-put-text
 slice-aggregate-put-text c = search needs
@@ -21,11 +21,11 @@ same-length : tie.Need-same-length
 same-length c = search needs
 
 returns : tie.Need-returns
-unfolding foundLine
+unfolding refusedLine
 returns c = wrote-append (c .before .before .before .before .before .before .before .before .before .before .put-text .ensures) (wrote-append (c .before .before .before .before .before .before .put-decimal .ensures .0) (c .before .before .push .ensures))
 
-pub put-found-spec : {M : Type 1} → statement M
-put-found-spec =
+pub put-refused-spec : {M : Type 1} → statement M
+put-refused-spec =
     tie.close
     (tie.spec
     slice-aggregate-put-text

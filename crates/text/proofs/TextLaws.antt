@@ -14,7 +14,7 @@ use Rattle.io.specs.Digits.{digits, Fewest}
 use Rattle.record.specs.declared.Record.{Record}
 use Rattle.record.specs.Layout.{spotWidth, recordBytes, bytesOf}
 use Rattle.record.proofs.LayoutLaws.{length-recordBytes}
-use Rattle.lister.specs.Text.{lineWidth, hexOf, lineOf, linesOf, linesIn, decimalBy, decimal, valueAfter, Wrote}
+use Rattle.text.specs.Text.{lineWidth, hexOf, lineOf, linesOf, linesIn, decimalBy, decimal, valueAfter, Wrote}
 
 -- ---- text written into a buffer
 

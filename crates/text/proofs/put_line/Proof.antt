@@ -1,14 +1,14 @@
--- `text::put_line` meets its contract. The loop's invariant: the hex digits of the first k bytes stand there.
+-- `put_line` meets its contract. The loop's invariant: the hex digits of the first k bytes stand there.
 use native.Mathlib.Omega.{arith}
 use mathlib.Core.Path.{_≡_, _∙_}
 use mathlib.Core.List.{[], _∷_}
 use Prim.Native.Nat.{_≤_, _-_, _+_, _*_}
 use lib.ListN.{take, drop, getD}
 use Rattle.record.specs.Layout.{spotWidth}
-use Rattle.lister.specs.Text.{hexOf, lineOf, Wrote}
-use Rattle.lister.proofs.TextLaws.{wrote-none, wrote-append, length-hexOf, hex-next}
-use Rattle.lister.proofs.text.put_line.Statement.{statement}
-use Rattle.lister.proofs.text.put_line.Tie as tie
+use Rattle.text.specs.Text.{hexOf, lineOf, Wrote}
+use Rattle.text.proofs.TextLaws.{wrote-none, wrote-append, length-hexOf, hex-next}
+use Rattle.text.proofs.put_line.Statement.{statement}
+use Rattle.text.proofs.put_line.Tie as tie
 
 abbrev Inv-loop : tie.InvT-loop
 Inv-loop out₀ at records i from next₀ k₀ out next k = (k ≤ spotWidth) × (next ≡ at + 2 * k) × Wrote out₀ out at next (hexOf (take k (drop (i * spotWidth) records)))

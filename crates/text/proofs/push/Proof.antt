@@ -1,8 +1,8 @@
--- `text::push` meets its contract.
-use Rattle.lister.proofs.TextLaws.{wrote-one}
+-- `push` meets its contract.
+use Rattle.text.proofs.TextLaws.{wrote-one}
 use borrow.Author.Needs.{needs}
-use Rattle.lister.proofs.text.push.Statement.{statement}
-use Rattle.lister.proofs.text.push.Tie as tie
+use Rattle.text.proofs.push.Statement.{statement}
+use Rattle.text.proofs.push.Tie as tie
 
 slice-write-out : tie.Need-slice-write-out
 slice-write-out c = search needs

@@ -1,14 +1,14 @@
--- `text::put_text` meets its contract. The loop's invariant: the first k bytes stand there.
+-- `put_text` meets its contract. The loop's invariant: the first k bytes stand there.
 use native.Mathlib.Omega.{arith}
 use mathlib.Core.Path.{_≡_}
 use Prim.Native.Nat.{_≤_, _-_, _+_, _<_}
 use native.Mathlib.Numerals.{add-one}
 use lib.ListN.{take, length}
 use lib.Seq.{take-suc, take-all}
-use Rattle.lister.specs.Text.{Wrote}
-use Rattle.lister.proofs.TextLaws.{wrote-none, wrote-append}
-use Rattle.lister.proofs.text.put_text.Statement.{statement}
-use Rattle.lister.proofs.text.put_text.Tie as tie
+use Rattle.text.specs.Text.{Wrote}
+use Rattle.text.proofs.TextLaws.{wrote-none, wrote-append}
+use Rattle.text.proofs.put_text.Statement.{statement}
+use Rattle.text.proofs.put_text.Tie as tie
 
 abbrev Inv-loop : tie.InvT-loop
 Inv-loop out₀ at text next₀ k₀ out next k = (k ≤ length text) × (next ≡ at + k) × Wrote out₀ out at next (take k text)

@@ -1,12 +1,12 @@
--- `text::put_decimal` meets its contract.
+-- `put_decimal` meets its contract.
 use native.Mathlib.Omega.{arith}
 use mathlib.Core.Path.{_∙_}
 use Prim.Native.Nat.{_≤_}
 use lib.ListN.{length-take}
-use Rattle.lister.proofs.TextLaws.{digits-decimal, fewest-most}
+use Rattle.text.proofs.TextLaws.{digits-decimal, fewest-most}
 use borrow.Author.Needs.{needs}
-use Rattle.lister.proofs.text.put_decimal.Statement.{statement}
-use Rattle.lister.proofs.text.put_decimal.Tie as tie
+use Rattle.text.proofs.put_decimal.Statement.{statement}
+use Rattle.text.proofs.put_decimal.Tie as tie
 
 decimal-requires : tie.Need-decimal-requires
 decimal-requires c κs = search needs

@@ -1,12 +1,12 @@
--- `text::put_lines` meets its contract. The loop's invariant: the first i lines stand there.
+-- `put_lines` meets its contract. The loop's invariant: the first i lines stand there.
 use native.Mathlib.Omega.{arith}
 use mathlib.Core.Path.{_≡_}
 use Prim.Native.Nat.{_≤_, _-_, _+_, _*_}
 use native.Mathlib.Numerals.{add-one}
-use Rattle.lister.specs.Text.{lineWidth, linesIn, Wrote}
-use Rattle.lister.proofs.TextLaws.{wrote-none, wrote-append, length-record-line}
-use Rattle.lister.proofs.text.put_lines.Statement.{statement}
-use Rattle.lister.proofs.text.put_lines.Tie as tie
+use Rattle.text.specs.Text.{lineWidth, linesIn, Wrote}
+use Rattle.text.proofs.TextLaws.{wrote-none, wrote-append, length-record-line}
+use Rattle.text.proofs.put_lines.Statement.{statement}
+use Rattle.text.proofs.put_lines.Tie as tie
 
 abbrev Inv-loop : tie.InvT-loop
 Inv-loop out₀ at records n next₀ i₀ out next i = (i ≤ n) × (next ≡ at + lineWidth * i) × Wrote out₀ out at next (linesIn i records)

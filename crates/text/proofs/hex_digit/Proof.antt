@@ -1,9 +1,9 @@
--- `text::hex_digit` meets its contract.
+-- `hex_digit` meets its contract.
 use borrow.Author.Tests.{lt-ltb, le-ltb}
-use Rattle.lister.specs.Text.{hexDigit}
+use Rattle.text.specs.Text.{hexDigit}
 use borrow.Author.Needs.{needs}
-use Rattle.lister.proofs.text.hex_digit.Statement.{statement}
-use Rattle.lister.proofs.text.hex_digit.Tie as tie
+use Rattle.text.proofs.hex_digit.Statement.{statement}
+use Rattle.text.proofs.hex_digit.Tie as tie
 
 add-result : tie.Need-add-result
 add-result c = search needs

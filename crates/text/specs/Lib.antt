@@ -1,0 +1,2 @@
+-- The definitions that the contracts of the list program's text cite.
+pub mod Text
