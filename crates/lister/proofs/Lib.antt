@@ -1,3 +1,3 @@
 -- What the functions' proofs cite, and what the list program's promise settles.
-pub mod InputLaws
+pub mod DetectLaws
 pub mod OutputLaws

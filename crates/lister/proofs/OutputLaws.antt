@@ -22,10 +22,11 @@ use Rattle.alp.specs.declared.Answer.{Answer}
 use Rattle.alp.specs.declared.Answer.the-variants.{Found, Refused}
 use Rattle.alp.proofs.RefusalsLaws.{first-answered as detect-refuses, none-found as detect-finds}
 use Rattle.alp.proofs.Promise.{answer-same, first-written}
-use Rattle.lister.specs.Input.{setFrom, thresholdsFrom, rowsFrom, colsFrom, octaveFrom, areaFrom, levelFrom, listChecks, detectFrom, mapsFrom}
 use Rattle.text.specs.Text.{linesOf, linesIn, foundLine, refusedLine, Wrote}
-use Rattle.lister.specs.Output.{mostShown, printed, tileOutput, checkedOutput, listOutput, Begins}
 use Rattle.text.proofs.TextLaws.{lines-of-bytes}
+use Rattle.input.specs.Input.{setFrom, thresholdsFrom, rowsFrom, colsFrom, octaveFrom, areaFrom, levelFrom, listChecks}
+use Rattle.lister.specs.Detect.{detectFrom, mapsFrom}
+use Rattle.lister.specs.Output.{mostShown, printed, tileOutput, checkedOutput, listOutput, Begins}
 
 -- text that was written from the start on
 pub wrote-begins : {out out' : List ℕ} {r : ℕ} {text : List ℕ} → Wrote out out' 0 r text → Begins out' r text

@@ -1,3 +1,3 @@
 -- The definitions that the contracts of the list program's work cite.
-pub mod Input
+pub mod Detect
 pub mod Output

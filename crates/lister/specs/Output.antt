@@ -10,8 +10,9 @@ use Rattle.record.specs.declared.Record.{Record}
 use Rattle.alp.specs.Due.{due}
 use Rattle.alp.specs.declared.Answer.{Answer}
 use Rattle.alp.specs.declared.Answer.the-variants.{Found, Refused}
-use Rattle.lister.specs.Input.{listChecks, detectFrom, mapsFrom}
 use Rattle.text.specs.Text.{linesOf, foundLine, refusedLine}
+use Rattle.input.specs.Input.{listChecks}
+use Rattle.lister.specs.Detect.{detectFrom, mapsFrom}
 
 -- how many records are printed at most
 abbrev pub mostShown : ℕ

@@ -1,12 +1,12 @@
 // The list program's work on bytes: from its input to its output.
-mod input; // input.rt: what is read of the input
-
 ghost use mathlib.Core.Path.{_≡_};
 ghost use Prim.Native.Nat.{min};
 ghost use Rattle.io.specs.Counts.{Counts};
 ghost use Rattle.tables.specs.declared.Checked.the-variants.{Fine};
 ghost use Rattle.tables.specs.Refusal.{firstOf};
-ghost use Rattle.lister.specs.Input.{listChecks};
+ghost use Rattle.alp.specs.Detect.{outcome};
+ghost use Rattle.input.specs.Input.{listChecks};
+ghost use Rattle.lister.specs.Detect.{detectFrom};
 ghost use Rattle.lister.specs.Output.{mostShown, tileOutput, listOutput, Begins};
 use alp::Answer;
 use tables::Checked;
@@ -31,13 +31,42 @@ fn shown(count: usize) -> usize
     }
 }
 
+// Detects what the input holds, with its list in the buffer out.
+fn detect_from(input: &[u8], out: &mut [u8]) -> Answer
+    requires { ⌜ firstOf (listChecks (now input)) ≡ Fine ⌝ }
+    ensures { λ r. ⌜ outcome r (now (out .exit)) ≡ detectFrom (now (input .entry)) (now (out .entry)) ⌝ }
+{
+    let rows = input::count_from(input, 548);
+    let cols = input::count_from(input, 552);
+    let octave = input::count_from(input, 556);
+    let n = input::area_from(input);
+    let l0 = input::level_from(input, 0);
+    let l1 = input::level_from(input, 1);
+    let l2 = input::level_from(input, 2);
+    let l3 = input::level_from(input, 3);
+    let set = input::set_from(input);
+    let thresholds = input::thresholds_from(input);
+    alp::detect(
+        set,
+        thresholds,
+        rows,
+        cols,
+        octave,
+        &l0[..n],
+        &l1[..n],
+        &l2[..n],
+        &l3[..n],
+        out,
+    )
+}
+
 // What a tile of the right length prints.
 fn list_tile(input: &[u8], out: &mut [u8; OUTPUT]) -> usize
     requires { ⌜ firstOf (listChecks (now input)) ≡ Fine ⌝ }
     ensures { λ r. ⌜ Begins (now (out .exit)) r (tileOutput (now (input .entry))) ⌝ }
 {
     let mut records = [0u8; SHOWN_BYTES];
-    let answer = input::detect_from(input, &mut records);
+    let answer = detect_from(input, &mut records);
     match answer {
         Answer::Found(count) => {
             let printed = shown(count);

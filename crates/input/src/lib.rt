@@ -1,20 +1,18 @@
-// What is read of the input: its checks, its levels, and detection of what it holds.
+// What the list program reads of its input: its checks, and the parts of a tile that passes them.
 ghost use mathlib.Core.Path.{_≡_};
 ghost use Prim.Native.Nat.{_+_, _*_, _<_, _≤_};
-ghost use lib.ListN.{length, take};
+ghost use lib.ListN.{length};
 ghost use Rattle.tables.specs.declared.Checked.the-variants.{Fine};
 ghost use Rattle.tables.specs.Refusal.{firstOf};
-ghost use Rattle.alp.specs.Detect.{outcome};
 ghost use Rattle.words.specs.Words.{wordFrom};
-ghost use Rattle.lister.specs.Input.{setFrom, thresholdsFrom, areaFrom, levelFrom, listChecks, detectFrom};
-use alp::Answer;
+ghost use Rattle.input.specs.Input.{setFrom, thresholdsFrom, areaFrom, levelArray, listChecks};
 use tables::Checked;
 use tables::Refusal;
 use tables::Set;
 use tables::Thresholds;
 
 // The word at the byte at, as a count.
-fn count_from(input: &[u8], at: usize) -> usize
+pub fn count_from(input: &[u8], at: usize) -> usize
     requires { ⌜ at + 4 ≤ length (now input) ⌝ }
     ensures { λ r. ⌜ r ≡ wordFrom (now (input .entry)) at ⌝ }
 {
@@ -52,7 +50,7 @@ pub fn checked(input: &[u8]) -> Checked
 }
 
 // The set in the first 528 bytes, that of zeros where it is refused.
-fn set_from(input: &[u8]) -> Set
+pub fn set_from(input: &[u8]) -> Set
     requires { ⌜ 528 ≤ length (now input) ⌝ }
     ensures { λ r. ⌜ r ≡ setFrom (now (input .entry)) ⌝ }
 {
@@ -61,7 +59,7 @@ fn set_from(input: &[u8]) -> Set
 }
 
 // The five thresholds.
-fn thresholds_from(input: &[u8]) -> Thresholds
+pub fn thresholds_from(input: &[u8]) -> Thresholds
     requires { ⌜ 548 ≤ length (now input) ⌝ }
     ensures { λ r. ⌜ r ≡ thresholdsFrom (now (input .entry)) ⌝ }
 {
@@ -75,7 +73,7 @@ fn thresholds_from(input: &[u8]) -> Thresholds
 }
 
 // The pixels of a level.
-fn area_from(input: &[u8]) -> usize
+pub fn area_from(input: &[u8]) -> usize
     requires { ⌜ firstOf (listChecks (now input)) ≡ Fine ⌝ }
     ensures { λ r. ⌜ (r ≡ areaFrom (now (input .entry))) × (r ≤ 3600) ⌝ }
 {
@@ -84,43 +82,14 @@ fn area_from(input: &[u8]) -> usize
     rows * cols
 }
 
-// Level k, at an array's start.
-fn level_from(input: &[u8], k: usize) -> [f32; 3600]
+// Level k, at the start of an array of zeros.
+pub fn level_from(input: &[u8], k: usize) -> [f32; 3600]
     requires { ⌜ firstOf (listChecks (now input)) ≡ Fine ⌝ }
     requires { ⌜ k < 4 ⌝ }
-    ensures { λ r. ⌜ (take (areaFrom (now (input .entry))) r ≡ levelFrom (now (input .entry)) k) × (length r ≡ 3600) ⌝ }
+    ensures { λ r. ⌜ r ≡ levelArray (now (input .entry)) k ⌝ }
 {
     let n = area_from(input);
     let mut floats = [0.0f32; 3600];
     words::read_floats(input, 140 + k * n, &mut floats[..n]);
     floats
-}
-
-// Detects what the input holds, with its list in the buffer out.
-pub fn detect_from(input: &[u8], out: &mut [u8]) -> Answer
-    requires { ⌜ firstOf (listChecks (now input)) ≡ Fine ⌝ }
-    ensures { λ r. ⌜ outcome r (now (out .exit)) ≡ detectFrom (now (input .entry)) (now (out .entry)) ⌝ }
-{
-    let rows = count_from(input, 548);
-    let cols = count_from(input, 552);
-    let octave = count_from(input, 556);
-    let n = area_from(input);
-    let l0 = level_from(input, 0);
-    let l1 = level_from(input, 1);
-    let l2 = level_from(input, 2);
-    let l3 = level_from(input, 3);
-    let set = set_from(input);
-    let thresholds = thresholds_from(input);
-    alp::detect(
-        set,
-        thresholds,
-        rows,
-        cols,
-        octave,
-        &l0[..n],
-        &l1[..n],
-        &l2[..n],
-        &l3[..n],
-        out,
-    )
 }

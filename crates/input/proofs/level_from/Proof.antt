@@ -1,13 +1,14 @@
--- `input::level_from` meets its contract.
+-- `level_from` meets its contract.
 use native.Mathlib.Omega.{arith}
 use mathlib.Core.Path.{_≡_, sym}
 use lib.ListN.{length, take, replicate, length-replicate}
 use lib.Seq.{length-take-le}
 use lib.Ieee.{binary32, ofBits}
-use Rattle.lister.proofs.InputLaws.{checks-tile, level-most, level-within, level-read}
+use Rattle.input.specs.Input.{levelArray}
+use Rattle.input.proofs.InputLaws.{checks-tile, level-most, level-within, level-read}
 use borrow.Author.Needs.{needs}
-use Rattle.lister.proofs.input.level_from.Statement.{statement}
-use Rattle.lister.proofs.input.level_from.Tie as tie
+use Rattle.input.proofs.level_from.Statement.{statement}
+use Rattle.input.proofs.level_from.Tie as tie
 
 -- the part that is lent is as long as the level
 room : (c : tie.After-floats) → length (take (c .before .area-from .result) (replicate 3600 (ofBits binary32 0))) ≡ c .before .area-from .result
@@ -34,6 +35,7 @@ read-floats-requires c κs =
     rw (room c, t .long, ← c .before .area-from .ensures .0) (level-within (c .before .before .before .args .k) (c .before .area-from .result) (c .before .before .before .pre .1))
 
 returns : tie.Need-returns
+unfolding levelArray
 returns c =
     let n = c .before .before .before .area-from in
     level-read _ _ _ _ (n .result) (length-replicate 3600 (ofBits binary32 0)) (n .ensures .1) (n .ensures .0) (c .before .read-floats .ensures)

@@ -1,9 +1,9 @@
--- `input::set_from` meets its contract.
+-- `set_from` meets its contract.
 use mathlib.Core.Path.{sym}
 use lib.Seq.{length-take-le}
 use borrow.Author.Needs.{needs}
-use Rattle.lister.proofs.input.set_from.Statement.{statement}
-use Rattle.lister.proofs.input.set_from.Tie as tie
+use Rattle.input.proofs.set_from.Statement.{statement}
+use Rattle.input.proofs.set_from.Tie as tie
 
 slice-aggregate-read-set : tie.Need-slice-aggregate-read-set
 slice-aggregate-read-set c = sym (length-take-le 528 (c .before .before .args .input .now) (c .before .before .pre))

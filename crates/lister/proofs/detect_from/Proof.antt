@@ -1,11 +1,11 @@
--- `input::detect_from` meets its contract.
+-- `detect_from` meets its contract.
 use native.Mathlib.Omega.{arith}
 use mathlib.Core.Path.{sym, _∙_}
-use lib.Seq.{length-take-le}
-use Rattle.lister.proofs.InputLaws.{checks-tile, detect-parts}
+use Rattle.input.proofs.InputLaws.{checks-tile, length-start}
+use Rattle.lister.proofs.DetectLaws.{detect-parts}
 use borrow.Author.Needs.{needs}
-use Rattle.lister.proofs.input.detect_from.Statement.{statement}
-use Rattle.lister.proofs.input.detect_from.Tie as tie
+use Rattle.lister.proofs.detect_from.Statement.{statement}
+use Rattle.lister.proofs.detect_from.Tie as tie
 
 count-from-requires : tie.Need-count-from-requires
 count-from-requires c κs = let t = checks-tile _ (c .before .before .pre) in omega arith
@@ -41,25 +41,25 @@ array-share-prefix-l0 : tie.Need-array-share-prefix-l0
 array-share-prefix-l0 c = search needs
 
 slice-aggregate-detect : tie.Need-slice-aggregate-detect
-slice-aggregate-detect c = sym (length-take-le _ (c .before .before .before .before .before .before .level-from .result) (omega (arith, c .before .before .before .before .before .before .before .area-from .ensures .1, c .before .before .before .before .before .before .level-from .ensures .1)))
+slice-aggregate-detect c = sym (length-start _ 0 (c .before .before .before .before .before .before .before .area-from .ensures .0) (c .before .before .before .before .before .before .level-from .ensures))
 
 array-share-prefix-l1 : tie.Need-array-share-prefix-l1
 array-share-prefix-l1 c = search needs
 
 slice-aggregate-detect-2 : tie.Need-slice-aggregate-detect-2
-slice-aggregate-detect-2 c = sym (length-take-le _ (c .before .before .before .before .before .before .level-from2 .result) (omega (arith, c .before .before .before .before .before .before .before .before .area-from .ensures .1, c .before .before .before .before .before .before .level-from2 .ensures .1)))
+slice-aggregate-detect-2 c = sym (length-start _ 1 (c .before .before .before .before .before .before .before .before .area-from .ensures .0) (c .before .before .before .before .before .before .level-from2 .ensures))
 
 array-share-prefix-l2 : tie.Need-array-share-prefix-l2
 array-share-prefix-l2 c = search needs
 
 slice-aggregate-detect-3 : tie.Need-slice-aggregate-detect-3
-slice-aggregate-detect-3 c = sym (length-take-le _ (c .before .before .before .before .before .before .level-from3 .result) (omega (arith, c .before .before .before .before .before .before .before .before .before .area-from .ensures .1, c .before .before .before .before .before .before .level-from3 .ensures .1)))
+slice-aggregate-detect-3 c = sym (length-start _ 2 (c .before .before .before .before .before .before .before .before .before .area-from .ensures .0) (c .before .before .before .before .before .before .level-from3 .ensures))
 
 array-share-prefix-l3 : tie.Need-array-share-prefix-l3
 array-share-prefix-l3 c = search needs
 
 slice-aggregate-detect-4 : tie.Need-slice-aggregate-detect-4
-slice-aggregate-detect-4 c = sym (length-take-le _ (c .before .before .before .before .before .before .level-from4 .result) (omega (arith, c .before .before .before .before .before .before .before .before .before .before .area-from .ensures .1, c .before .before .before .before .before .before .level-from4 .ensures .1)))
+slice-aggregate-detect-4 c = sym (length-start _ 3 (c .before .before .before .before .before .before .before .before .before .before .area-from .ensures .0) (c .before .before .before .before .before .before .level-from4 .ensures))
 
 detect-requires : tie.Need-detect-requires
 detect-requires c κs = search needs
@@ -81,10 +81,10 @@ returns c =
     (c .before .before .before .before .before .before .before .before .before .before .before .before .before .before .before .before .count-from2 .ensures)
     (c .before .before .before .before .before .before .before .before .before .before .before .before .before .before .before .count-from3 .ensures)
     (c .before .before .before .before .before .before .before .before .before .before .before .before .before .before .area-from .ensures .0)
-    (c .before .before .before .before .before .before .before .before .before .before .before .before .before .level-from .ensures .0)
-    (c .before .before .before .before .before .before .before .before .before .before .before .before .level-from2 .ensures .0)
-    (c .before .before .before .before .before .before .before .before .before .before .before .level-from3 .ensures .0)
-    (c .before .before .before .before .before .before .before .before .before .before .level-from4 .ensures .0)
+    (c .before .before .before .before .before .before .before .before .before .before .before .before .before .level-from .ensures)
+    (c .before .before .before .before .before .before .before .before .before .before .before .before .level-from2 .ensures)
+    (c .before .before .before .before .before .before .before .before .before .before .before .level-from3 .ensures)
+    (c .before .before .before .before .before .before .before .before .before .before .level-from4 .ensures)
 
 pub detect-from-spec : {M : Type 1} → statement M
 detect-from-spec =

@@ -1,10 +1,10 @@
--- `input::checked` meets its contract.
+-- `checked` meets its contract.
 use borrow.Author.Tests.{lt-ltb, le-ltb, eq-eqb, ne-eqb}
 use Rattle.tables.specs.Refusal.{unless, firstOf}
-use Rattle.lister.specs.Input.{listChecks}
+use Rattle.input.specs.Input.{listChecks}
 use borrow.Author.Needs.{needs}
-use Rattle.lister.proofs.input.checked.Statement.{statement}
-use Rattle.lister.proofs.input.checked.Tie as tie
+use Rattle.input.proofs.checked.Statement.{statement}
+use Rattle.input.proofs.checked.Tie as tie
 
 returns : tie.Need-returns
 unfolding listChecks firstOf unless

@@ -1,10 +1,10 @@
--- `input::area_from` meets its contract.
+-- `area_from` meets its contract.
 use native.Mathlib.Omega.{arith}
 use Prim.Native.Nat.{_≤_}
 use mathlib.Core.Path.{refl}
-use Rattle.lister.proofs.InputLaws.{checks-tile, area-sixty}
-use Rattle.lister.proofs.input.area_from.Statement.{statement}
-use Rattle.lister.proofs.input.area_from.Tie as tie
+use Rattle.input.proofs.InputLaws.{checks-tile, area-sixty}
+use Rattle.input.proofs.area_from.Statement.{statement}
+use Rattle.input.proofs.area_from.Tie as tie
 
 count-from-requires : tie.Need-count-from-requires
 count-from-requires c κs = let t = checks-tile _ (c .before .pre) in omega arith

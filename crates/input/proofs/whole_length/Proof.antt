@@ -1,9 +1,9 @@
--- `input::whole_length` meets its contract.
+-- `whole_length` meets its contract.
 use native.Mathlib.Omega.{arith}
-use Rattle.lister.proofs.InputLaws.{area-sixty}
+use Rattle.input.proofs.InputLaws.{area-sixty}
 use borrow.Author.Needs.{needs}
-use Rattle.lister.proofs.input.whole_length.Statement.{statement}
-use Rattle.lister.proofs.input.whole_length.Tie as tie
+use Rattle.input.proofs.whole_length.Statement.{statement}
+use Rattle.input.proofs.whole_length.Tie as tie
 
 mul-result : tie.Need-mul-result
 mul-result c = omega (arith, area-sixty (c .pre .0) (c .pre .1))

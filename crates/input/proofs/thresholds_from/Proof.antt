@@ -1,7 +1,7 @@
--- `input::thresholds_from` meets its contract.
+-- `thresholds_from` meets its contract.
 use borrow.Author.Needs.{needs}
-use Rattle.lister.proofs.input.thresholds_from.Statement.{statement}
-use Rattle.lister.proofs.input.thresholds_from.Tie as tie
+use Rattle.input.proofs.thresholds_from.Statement.{statement}
+use Rattle.input.proofs.thresholds_from.Tie as tie
 
 float-from-requires : tie.Need-float-from-requires
 float-from-requires c κs = search needs

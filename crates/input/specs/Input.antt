@@ -1,17 +1,15 @@
 -- The input's layout, and its checks. Definitions only.
 use Prim.Native.Nat.{ℕ, _+_, _*_}
 use mathlib.Core.Bool.{not, _||_}
-use mathlib.Core.List.{List, [], _∷_}
-use lib.ListN.{length, take}
+use mathlib.Core.List.{List, [], _∷_, _++_}
+use lib.ListN.{length, take, drop, replicate}
 use lib.Dec.{ltb, eqb}
-use lib.Ieee.{Float}
+use lib.Ieee.{Float, binary32, ofBits}
 use Rattle.tables.specs.declared.Set.{Set}
 use Rattle.tables.specs.declared.Thresholds.{Thresholds}
 use Rattle.tables.specs.declared.Refusal.the-variants.{Size, Level}
 use Rattle.tables.specs.Refusal.{Check, _when_, readSetOf}
 use Rattle.words.specs.Words.{wordFrom, floatFrom, floatsAt}
-use Rattle.samples.specs.Level.{Maps, mapsOf}
-use Rattle.alp.specs.Detect.{Outcome, detectOf}
 
 -- the set, in the first 528 bytes
 abbrev pub setFrom : List ℕ → Set
@@ -41,6 +39,10 @@ areaFrom b = rowsFrom b * colsFrom b
 abbrev pub levelFrom : List ℕ → ℕ → List Float
 levelFrom b k = floatsAt (areaFrom b) b (140 + k * areaFrom b)
 
+-- level k at the start of an array of 3,600 zeros, the most pixels of a level
+unfoldable pub levelArray : List ℕ → ℕ → List Float
+levelArray b k = levelFrom b k ++ drop (areaFrom b) (replicate 3600 (ofBits binary32 0))
+
 -- the input's own checks, in their order, which stand in front of detection's: 2 for a header cut short, 1 for a side above 60, 2 for any other wrong length
 unfoldable pub listChecks : List ℕ → List Check
 listChecks b =
@@ -48,13 +50,3 @@ listChecks b =
     ∷ (Size when (ltb 60 (rowsFrom b) || ltb 60 (colsFrom b)))
     ∷ (Level when not (eqb (length b) (560 + 16 * areaFrom b)))
     ∷ []
-
--- detection of what the input holds, with its list in the buffer out
-unfoldable pub detectFrom : List ℕ → List ℕ → Outcome
-detectFrom b out =
-    detectOf (setFrom b) (thresholdsFrom b) (rowsFrom b) (colsFrom b) (octaveFrom b) (levelFrom b 0) (levelFrom b 1) (levelFrom b 2) (levelFrom b 3) out
-
--- the four levels with what they are judged by
-abbrev pub mapsFrom : List ℕ → Maps
-mapsFrom b =
-    mapsOf (levelFrom b 0) (levelFrom b 1) (levelFrom b 2) (levelFrom b 3) (record { rows = rowsFrom b; cols = colsFrom b; octave = octaveFrom b }) (setFrom b) (thresholdsFrom b)

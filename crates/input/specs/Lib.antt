@@ -1,0 +1,2 @@
+-- The definitions that the contracts of what is read cite.
+pub mod Input
