@@ -24,8 +24,15 @@ use Rattle.fit.proofs.stream.put_low as put-low
 use Rattle.fit.proofs.stream.put_high as put-high
 use Rattle.fit.proofs.stream.shape as shape
 use Rattle.fit.proofs.stream.scale_envelope as scale-envelope
-use Rattle.refine.proofs.refine.get_q_scale_index as get-q-scale-index
-use Rattle.refine.proofs.refine.fit_spatial_quadratic as fit-spatial-quadratic
+use Rattle.spatial.proofs.edge.values_at as values-at
+use Rattle.spatial.proofs.edge.passes_edge as passes-edge
+use Rattle.spatial.proofs.place.get_q_scale_index as get-q-scale-index
+use Rattle.spatial.proofs.place.fit_spatial_quadratic as fit-spatial-quadratic
+use Rattle.spatial.proofs.place.denominator as denominator
+use Rattle.spatial.proofs.place.is_steep as is-steep
+use Rattle.spatial.proofs.place.delta_y as delta-y
+use Rattle.spatial.proofs.place.delta_x as delta-x
+use Rattle.spatial.proofs.place.is_nearby as is-nearby
 use Rattle.refine.proofs.refine.refine_keypoint_2d as refine-keypoint-2d
 use Rattle.refine.proofs.lend.settle as settle
 use Rattle.refine.proofs.lend.refine_spot as refine-spot
@@ -103,11 +110,32 @@ module _ {M : Type 1} (𝓤 : URA M) (H : Heap 𝓤) (A : Atoms 𝓤) (mem : Mem
 
   -- ---- the refinement
 
+  pub values-at-settled : Settles 𝓤 values-at.ended (values-at.clauses 𝓤 H A mem run)
+  values-at-settled κs a g g' r r' ws ws' = one-answer 𝓤 _
+
+  pub passes-edge-settled : Settles 𝓤 passes-edge.ended (passes-edge.clauses 𝓤 H A mem run)
+  passes-edge-settled κs a g g' r r' ws ws' = one-answer 𝓤 _
+
   pub get-q-scale-index-settled : Settles 𝓤 get-q-scale-index.ended (get-q-scale-index.clauses 𝓤 H A mem run)
   get-q-scale-index-settled κs a g g' r r' ws ws' = one-answer 𝓤 _
 
   pub fit-spatial-quadratic-settled : Settles 𝓤 fit-spatial-quadratic.ended (fit-spatial-quadratic.clauses 𝓤 H A mem run)
   fit-spatial-quadratic-settled κs a g g' r r' ws ws' = one-answer 𝓤 _
+
+  pub denominator-settled : Settles 𝓤 denominator.ended (denominator.clauses 𝓤 H A mem run)
+  denominator-settled κs a g g' r r' ws ws' = one-answer 𝓤 _
+
+  pub is-steep-settled : Settles 𝓤 is-steep.ended (is-steep.clauses 𝓤 H A mem run)
+  is-steep-settled κs a g g' r r' ws ws' = one-answer 𝓤 _
+
+  pub delta-y-settled : Settles 𝓤 delta-y.ended (delta-y.clauses 𝓤 H A mem run)
+  delta-y-settled κs a g g' r r' ws ws' = one-answer 𝓤 _
+
+  pub delta-x-settled : Settles 𝓤 delta-x.ended (delta-x.clauses 𝓤 H A mem run)
+  delta-x-settled κs a g g' r r' ws ws' = one-answer 𝓤 _
+
+  pub is-nearby-settled : Settles 𝓤 is-nearby.ended (is-nearby.clauses 𝓤 H A mem run)
+  is-nearby-settled κs a g g' r r' ws ws' = one-answer 𝓤 _
 
   pub refine-keypoint-2d-settled : Settles 𝓤 refine-keypoint-2d.ended (refine-keypoint-2d.clauses 𝓤 H A mem run)
   refine-keypoint-2d-settled κs a g g' r r' ws ws' = one-answer 𝓤 _

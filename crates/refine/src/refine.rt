@@ -1,175 +1,19 @@
-// The refinement: which inner level a sigma belongs to, the spatial fit, edge rejection and the place between pixels.
+// The refinement: edge rejection, and the spot moved to its place between pixels.
 ghost use mathlib.Core.Path.{_≡_};
-ghost use Prim.Native.Nat.{_<_, _≤_, _+_, _*_};
-ghost use Rattle.float.specs.Num.{f0};
-ghost use Rattle.fit.specs.Cubic.{_at_};
-ghost use Rattle.refine.specs.Refine.{valueOf, valuesOf, edgeOf, indexOf, blockOf, termOf, sumFrom, spatialOf, denominatorOf, steepOf, deltaYOf, deltaXOf, nearby, placedOf, movedOf, refineOf};
+ghost use Rattle.refine.specs.Refine.{placedOf, movedOf, refineOf};
 use crate::Refined;
 use crate::Spot;
-use fit::scale_fit::bends;
+use spatial::edge;
+use spatial::place;
+pub use spatial::place::fit_spatial_quadratic;
+pub use spatial::place::get_q_scale_index;
 use tables::Set;
-
-// The inner level whose fit a sigma takes.
-pub fn get_q_scale_index(sigmas: [f32; 4], sigma: f32) -> u8
-    ensures { λ r. ⌜ r ≡ indexOf sigmas sigma ⌝ }
-{
-    if sigma <= sigmas[1] { 1 } else { 2 }
-}
-
-// The value at s of the i-th cubic, by powers of s.
-fn value_at(k: &[[f32; 4]; 9], s: f32, i: usize) -> f32
-    requires { ⌜ i < 9 ⌝ }
-    ensures { λ r. ⌜ r ≡ valueOf (now (k .entry)) s i ⌝ }
-{
-    let ss = s * s;
-    let sss = ss * s;
-    k[i][0] * sss + k[i][1] * ss + k[i][2] * s + k[i][3]
-}
-
-// The nine values at s.
-fn values_at(k: &[[f32; 4]; 9], s: f32) -> [f32; 9]
-    ensures { λ r. ⌜ r ≡ valuesOf (now (k .entry)) s ⌝ }
-{
-    [
-        value_at(k, s, 0),
-        value_at(k, s, 1),
-        value_at(k, s, 2),
-        value_at(k, s, 3),
-        value_at(k, s, 4),
-        value_at(k, s, 5),
-        value_at(k, s, 6),
-        value_at(k, s, 7),
-        value_at(k, s, 8),
-    ]
-}
-
-// The Hessian of the nine values is no edge's.
-fn passes_edge(v: [f32; 9], most: f32, is_max: bool) -> bool
-    ensures { λ r. ⌜ r ≡ edgeOf v most «is_max» ⌝ }
-{
-    let gxx = v[3] - 2.0 * v[4] + v[5];
-    let gyy = v[1] - 2.0 * v[4] + v[7];
-    let gxy = 0.25 * (v[0] + v[8] - v[6] - v[2]);
-    let tr = gxx + gyy;
-    let det = gxx * gyy - gxy * gxy;
-    let ratio = tr * tr / det;
-    float::is_finite(gxx)
-        & float::is_finite(gyy)
-        & float::is_finite(gxy)
-        & float::is_finite(tr)
-        & float::is_finite(det)
-        & !(det < 1e-10)
-        & bends(tr, is_max)
-        & float::is_finite(ratio)
-        & !(ratio > most)
-}
-
-// A byte as a number to index by.
-fn wide(x: u8) -> usize
-    ensures { λ r. ⌜ r ≡ x ⌝ }
-{
-    x as usize
-}
-
-// The value that an order byte names; NaN where there is none.
-fn value_named(v: &[f32], name: u8) -> f32
-    ensures { λ r. ⌜ r ≡ now (v .entry) at name ⌝ }
-{
-    let i = wide(name);
-    if i < v.len() { v[i] } else { 0.0 / 0.0 }
-}
-
-// The i-th term of the row that begins at base.
-fn term(w: &[f32; 90], order: [u8; 9], v: &[f32], base: usize, i: usize) -> f32
-    requires { ⌜ base ≤ 81 ⌝ }
-    requires { ⌜ i < 9 ⌝ }
-    ensures { λ r. ⌜ r ≡ termOf (now (w .entry)) order (now (v .entry)) base i ⌝ }
-{
-    w[base + i] * value_named(v, order[i])
-}
-
-// A row's sum, from the left. It starts at +0.
-fn row_sum(w: &[f32; 90], order: [u8; 9], v: &[f32], block: usize, row: usize) -> f32
-    requires { ⌜ block ≤ 45 ⌝ }
-    requires { ⌜ row < 5 ⌝ }
-    ensures { λ r. ⌜ r ≡ sumFrom 9 0 f0 (termOf (now (w .entry)) order (now (v .entry)) (block + 9 * row)) ⌝ }
-{
-    let base = block + 9 * row;
-    let mut acc = 0.0f32;
-    let mut i = 0usize;
-    while i < 9 {
-        acc = acc + term(w, order, v, base, i);
-        i += 1;
-    }
-    acc
-}
-
-// Where the spatial entries of a scale index begin.
-fn block_of(index: u8) -> usize
-    ensures { λ r. ⌜ (r ≡ blockOf index) × (r ≤ 45) ⌝ }
-{
-    if index == 1 { 0 } else { 45 }
-}
-
-// The five numbers w1 to w5 of the spatial fit.
-pub fn fit_spatial_quadratic(set: Set, index: u8, values: [f32; 9]) -> [f32; 5]
-    ensures { λ r. ⌜ r ≡ spatialOf set index values ⌝ }
-{
-    let block = block_of(index);
-    let order = set.order;
-    [
-        row_sum(&set.spatial, order, &values, block, 0),
-        row_sum(&set.spatial, order, &values, block, 1),
-        row_sum(&set.spatial, order, &values, block, 2),
-        row_sum(&set.spatial, order, &values, block, 3),
-        row_sum(&set.spatial, order, &values, block, 4),
-    ]
-}
-
-// The denominator of the fit's stationary point.
-fn denominator(w: [f32; 5]) -> f32
-    ensures { λ r. ⌜ r ≡ denominatorOf w ⌝ }
-{
-    4.0 * w[0] * w[1] - w[2] * w[2]
-}
-
-// The fit's leading numbers are finite and w1 has the polarity's sign.
-fn is_steep(w: [f32; 5], is_max: bool) -> bool
-    ensures { λ r. ⌜ r ≡ steepOf w «is_max» ⌝ }
-{
-    float::is_finite(w[0])
-        & float::is_finite(w[1])
-        & float::is_finite(w[2])
-        & float::is_finite(denominator(w))
-        & bends(w[0], is_max)
-}
-
-// The displacement along a column.
-fn delta_y(w: [f32; 5]) -> f32
-    ensures { λ r. ⌜ r ≡ deltaYOf w ⌝ }
-{
-    (w[2] * w[3] - 2.0 * w[0] * w[4]) / denominator(w)
-}
-
-// The displacement along a row, given the one along the column.
-fn delta_x(w: [f32; 5], dy: f32) -> f32
-    ensures { λ r. ⌜ r ≡ deltaXOf w dy ⌝ }
-{
-    (-w[3] - w[2] * dy) / (2.0 * w[0])
-}
-
-// A displacement passes, at exactly 0.6 too.
-fn is_nearby(d: f32) -> bool
-    ensures { λ r. ⌜ r ≡ nearby d ⌝ }
-{
-    float::is_finite(d) & !(float::abs(d) > 0.6)
-}
 
 // The spot displaced, where both displacements pass.
 fn placed(spot: Spot, index: u8, dx: f32, dy: f32) -> Refined
     ensures { λ r. ⌜ r ≡ placedOf spot index dx dy ⌝ }
 {
-    if is_nearby(dx) & is_nearby(dy) {
+    if place::is_nearby(dx) & place::is_nearby(dy) {
         Refined::Accepted(Spot {
             x: spot.x + dx,
             y: spot.y + dy,
@@ -188,17 +32,17 @@ fn placed(spot: Spot, index: u8, dx: f32, dy: f32) -> Refined
 fn moved(spot: Spot, index: u8, w: [f32; 5]) -> Refined
     ensures { λ r. ⌜ r ≡ movedOf spot index w ⌝ }
 {
-    if denominator(w) < 1e-10 {
+    if place::denominator(w) < 1e-10 {
         return Refined::Rejected;
     }
     if float::abs(w[0]) < 1e-10 {
         return Refined::Rejected;
     }
-    if !is_steep(w, spot.max) {
+    if !place::is_steep(w, spot.max) {
         return Refined::Rejected;
     }
-    let dy = delta_y(w);
-    let dx = delta_x(w, dy);
+    let dy = place::delta_y(w);
+    let dx = place::delta_x(w, dy);
     placed(spot, index, dx, dy)
 }
 
@@ -206,8 +50,8 @@ fn moved(spot: Spot, index: u8, w: [f32; 5]) -> Refined
 pub fn refine_keypoint_2d(set: Set, spot: Spot, k: &[[f32; 4]; 9], ratio: f32) -> Refined
     ensures { λ r. ⌜ r ≡ refineOf set ratio (now (k .entry)) spot ⌝ }
 {
-    let values = values_at(k, spot.sigma);
-    if !passes_edge(values, ratio, spot.max) {
+    let values = edge::values_at(k, spot.sigma);
+    if !edge::passes_edge(values, ratio, spot.max) {
         return Refined::Rejected;
     }
     let sigmas = set.sigmas;

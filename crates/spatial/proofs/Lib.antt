@@ -1,0 +1,2 @@
+-- What the proofs of the spatial fit cite.
+mod FitSteps

@@ -1,0 +1,3 @@
+-- The numbers of a refinement.
+pub mod Edge
+pub mod Place
