@@ -1,0 +1,25 @@
+"""Uramsheg: the spots of a gas map that stand out at one size. Every call ends, whatever it is given; a refused one raises a `Refused`."""
+from .detector import Thresholds, correct, detect, downsample, join, octave_count, read_set
+from .records import SET, SIZED, SPOT
+from .refusals import (
+    LevelRefused,
+    NoSizeRefused,
+    OctaveRefused,
+    RecordsRefused,
+    Refused,
+    RoomRefused,
+    SetRefused,
+    SizeRefused,
+    ThresholdsRefused,
+)
+from .tables import Tables, TablesFault, standard
+
+#: the join by what it is for: each spot's size
+size = join
+
+__version__ = "0.1.0"
+__all__ = [
+    "LevelRefused", "NoSizeRefused", "OctaveRefused", "RecordsRefused", "Refused", "RoomRefused", "SET", "SIZED", "SPOT", "SetRefused", "SizeRefused",
+    "Tables", "TablesFault", "Thresholds", "ThresholdsRefused", "correct", "detect", "downsample", "join", "octave_count", "read_set", "size",
+    "standard",
+]

@@ -1,0 +1,144 @@
+"""The proved functions on numpy arrays. Nothing is decided here: arguments become slices, answers get names. Other threads run meanwhile."""
+from typing import NamedTuple
+
+import numpy as np
+
+from . import arrays
+from ._native import ffi, lib
+from .records import SIZED, SPOT
+from .refusals import LevelRefused, OctaveRefused, RecordsRefused, SetRefused, SizeRefused, ThresholdsRefused, kind_of
+from .tables import Tables, faults, record_of
+
+
+class Thresholds(NamedTuple):
+    """What a spot must pass: its peak is beyond `peak`, its curvature over scale beyond `sigma`, the ratio of its curvatures in the plane not above
+    `ratio`, its sigma from `low` to `high`. All but `peak` have the values that the published text states."""
+
+    peak: float
+    sigma: float = 0.0
+    ratio: float = 12.1
+    low: float = 1.9027314
+    high: float = 4.1498866
+
+
+def detect(levels, tables, thresholds, octave=0, *, room=1024):
+    """The spots of four blurred levels, an array of SPOT by rising key.
+
+    A level is a 2-d array of rows by cols; NaN is a lost pixel. Levels that are float32 (native, aligned) in Fortran order are read where they lie;
+    each other one is copied: another type is rounded to float32, a masked pixel is NaN. `room` is the number of spots that the first try has room
+    for; where there are more, a second try has room for all.
+    """
+    record = record_of(tables)
+    given = Thresholds(*map(float, thresholds))
+    four = [arrays.level(values) for values in levels]
+    if len(four) != 4:
+        raise TypeError(f"detection takes four levels, not {len(four)}")
+    rows, cols = four[0].shape
+    octave = arrays.count("octave", octave)
+    slices = [part for array in four for part in slice_of(array, (rows, cols))]
+    value = ffi.new("uint64_t *")
+    while True:
+        out = np.zeros(arrays.count("room", room), SPOT)
+        number = lib.uramsheg_detect(record, len(record), *given, rows, cols, octave, *slices, *arrays.octets_to_write(out), value)
+        if number:
+            raise refusal(number, record=record, shapes=[array.shape for array in four], thresholds=given, octave=octave)
+        if value[0] <= len(out):
+            return out[:value[0]].copy()
+        room = value[0]
+
+
+def slice_of(array, shape):
+    """A level's floats. One of another shape goes as a slice of a wrong length, so that the call refuses it at its own place in the order."""
+    if array.shape == shape:
+        return arrays.floats(array)
+    wrong = 0 if shape[0] * shape[1] else 1
+    return ffi.new("float[1]"), wrong
+
+
+def join(spots, tables, shape, *, out=None):
+    """Each spot with its size and its own pixel, an array of SIZED in the list's order.
+
+    `spots` is what `detect` answers, or the bytes of such records; `shape` is the levels' rows and cols. A size comes from the four samples, the
+    sigma and the polarity in the spot's own record. `out`, a contiguous array of SIZED, is written to where it is given, and its first records are
+    answered.
+    """
+    record = record_of(tables)
+    listed = listed_bytes(spots)
+    rows, cols = (arrays.count("a side", side) for side in shape)
+    if out is None:
+        out = np.zeros(len(listed) // SPOT.itemsize, SIZED)
+    if not isinstance(out, np.ndarray) or out.dtype != SIZED or out.ndim != 1:
+        raise TypeError("out must be a 1-d array of SIZED")
+    if np.may_share_memory(out, listed):
+        raise ValueError("out must not overlap the spots")
+    value = ffi.new("uint64_t *")
+    number = lib.uramsheg_join(record, len(record), rows, cols, *arrays.octets(listed), *arrays.octets_to_write(out), value)
+    if number:
+        raise refusal(number, value[0], record=record, shapes=[(rows, cols)], listed=len(listed))
+    return out[:value[0]]
+
+
+def listed_bytes(spots):
+    """A list's bytes: those of an array of SPOT, or the ones given."""
+    if isinstance(spots, np.ndarray) and spots.dtype == SPOT and spots.ndim == 1:
+        return np.ascontiguousarray(spots).view("u1")
+    if isinstance(spots, (bytes, bytearray, memoryview)):
+        return np.frombuffer(spots, "u1")
+    raise TypeError("spots must be what detect answers, a 1-d array of SPOT, or the bytes of such records")
+
+
+def correct(samples, tables, sigma, is_max):
+    """The corrected sigma of a spot with these four centre samples, this sigma and this polarity."""
+    record = record_of(tables)
+    four = [float(sample) for sample in samples]
+    if len(four) != 4:
+        raise TypeError(f"a spot has four samples, not {len(four)}")
+    corrected = ffi.new("float *")
+    number = lib.uramsheg_correct(record, len(record), *four, float(sigma), bool(is_max), corrected)
+    if number:
+        raise refusal(number, record=record)
+    return corrected[0]
+
+
+def octave_count(rows, cols):
+    """How many octaves a map of these sides has, 0 to 6."""
+    return lib.uramsheg_octave_count(arrays.count("rows", rows), arrays.count("cols", cols))
+
+
+def downsample(level):
+    """Every second pixel of every second column: pixel (r, c) of the answer is (2r, 2c) of the level, which is copied as in `detect`."""
+    array = arrays.level(level)
+    rows, cols = array.shape
+    out = np.zeros((rows // 2) * (cols // 2), np.float32)
+    half_rows, half_cols = ffi.new("uint64_t *"), ffi.new("uint64_t *")
+    lent = ffi.from_buffer("float[]", out, require_writable=True)
+    number = lib.uramsheg_downsample(rows, cols, *arrays.floats(array), lent, len(out), half_rows, half_cols)
+    if number:
+        raise refusal(number, shapes=[array.shape])
+    return out[:half_rows[0] * half_cols[0]].reshape((half_rows[0], half_cols[0]), order="F")
+
+
+def read_set(record):
+    """The tables of a good set record; SetRefused names every fault of another."""
+    octets = record_of(record)
+    number = lib.uramsheg_set_check(octets, len(octets))
+    if number:
+        raise refusal(number, record=octets)
+    return Tables.from_bytes(octets)
+
+
+def refusal(number, value=0, *, record=b"", shapes=(), thresholds=(), octave=0, listed=0):
+    """The exception of a refused call, with what was handed in where it says more than the number does."""
+    kind = kind_of(number)
+    if kind is ThresholdsRefused:
+        return kind([name for name, given in zip(Thresholds._fields, thresholds) if given != given])
+    if kind is RecordsRefused:
+        whole, rest = divmod(listed, SPOT.itemsize)
+        return kind(f"{listed} bytes are {whole} records and {rest} bytes more" if rest else f"record {value}", int(value))
+    if kind is SetRefused:
+        return kind("; ".join(faults(record)))
+    if kind is OctaveRefused:
+        return kind(f"octave {octave}")
+    if kind in (SizeRefused, LevelRefused):
+        return kind(", ".join(f"{rows} by {cols}" for rows, cols in shapes))
+    return kind()

@@ -1,0 +1,29 @@
+"""The records of uramsheg.h as numpy types. Every byte is a named field: numpy copies fields, and leaves the bytes between them to chance."""
+import numpy as np
+
+from ._native import lib
+
+#: the eleven numbers of a set, in its record's order
+NUMBERS = (
+    "log_sigma_origin", "curvature_epsilon", "fit_t_min", "fit_t_max", "accepted_sigma_min", "accepted_sigma_max",
+    "blend_beta", "blend_boost", "compatibility_lower", "compatibility_upper", "move_cap",
+)
+
+#: a set record: cubics have rows a, b, c, d of three; `spatial` has rows w1 to w5 of nine for scale index 1, then for 2
+SET = np.dtype([
+    ("sigmas", "<f4", (4,)), ("scale", "<f4", (4, 3)), ("geometry", "<f4", (4, 3)), ("spatial", "<f4", (2, 5, 9)),
+    *((name, "<f4") for name in NUMBERS), ("order", "u1", (9,)), ("spare", "u1", (3,)),
+])
+
+#: a spot as detection lists it; `key` is row * cols + col of its own pixel
+SPOT = np.dtype([
+    ("x", "<f4"), ("y", "<f4"), ("sigma", "<f4"), ("peak", "<f4"), ("samples", "<f4", (4,)), ("key", "<u4"),
+    ("octave", "u1"), ("scale_index", "u1"), ("is_max", "?"), ("spare", "u1"),
+])
+
+#: a spot with its size (0 where it has none: `accepted` is then false) and its own pixel
+SIZED = np.dtype(SPOT.descr + [("size", "<f4"), ("row", "<u2"), ("col", "<u2"), ("accepted", "?"), ("spare_sized", "u1", (3,))])
+
+for kind, width in ((SET, lib.URAMSHEG_SET_BYTES), (SPOT, lib.URAMSHEG_SPOT_BYTES), (SIZED, lib.URAMSHEG_SIZED_BYTES)):
+    if kind.itemsize != width:
+        raise ImportError(f"a record of {kind.itemsize} bytes has {width} in uramsheg.h: build the package and its archive from one")

@@ -1,0 +1,96 @@
+"""Why a call was refused: one class a number of uramsheg.h."""
+from ._native import lib
+
+# the number of a threshold that is not a number, where the header does not name it
+THRESHOLDS = getattr(lib, "URAMSHEG_REFUSED_THRESHOLDS", 8)
+
+
+class Refused(ValueError):
+    """A refused call: `number` is that of uramsheg.h, `why` its meaning, `detail` the case, `index` the record it speaks of, else None."""
+
+    number = 0
+    why = ""
+
+    def __init__(self, detail="", index=None):
+        super().__init__(detail, index)
+        self.detail = detail
+        self.index = index
+
+    def __str__(self):
+        return f"refused {self.number}: {self.why}" + (f" ({self.detail})" if self.detail else "")
+
+
+class SizeRefused(Refused):
+    """Rows or cols above 4096."""
+
+    number = lib.URAMSHEG_REFUSED_SIZE
+    why = "rows or cols above 4096: cut the map into tiles"
+
+
+class LevelRefused(Refused):
+    """The levels are not of one shape."""
+
+    number = lib.URAMSHEG_REFUSED_LEVEL
+    why = "the four levels must have one shape"
+
+
+class OctaveRefused(Refused):
+    """The octave is above 5."""
+
+    number = lib.URAMSHEG_REFUSED_OCTAVE
+    why = "the octave is above 5"
+
+
+class SetRefused(Refused):
+    """The set record is not 528 bytes long or not good; `detail` names every fault."""
+
+    number = lib.URAMSHEG_REFUSED_SET
+    why = "the set of tables is not good"
+
+
+class RecordsRefused(Refused):
+    """The list is no whole number of records (`index` is how many are whole), or holds a bad one (`index` is its place)."""
+
+    number = lib.URAMSHEG_REFUSED_RECORDS
+    why = "the list holds a record that is bad for this map, or a part of one"
+
+
+class RoomRefused(Refused):
+    """The output is shorter than needed."""
+
+    number = lib.URAMSHEG_REFUSED_ROOM
+    why = "the output is too short: lend a longer one"
+
+
+class NoSizeRefused(Refused):
+    """The spot has no size."""
+
+    number = lib.URAMSHEG_REFUSED_NO_SIZE
+    why = "this spot has no size"
+
+
+class ThresholdsRefused(Refused):
+    """A threshold is not a number; `names` says which."""
+
+    number = THRESHOLDS
+    why = "a threshold is not a number"
+
+    def __init__(self, names=()):
+        super().__init__(", ".join(names))
+        self.args = (tuple(names),)
+        self.names = tuple(names)
+
+
+#: the classes by their numbers
+REFUSALS = {kind.number: kind for kind in Refused.__subclasses__()}
+
+for name in dir(lib):
+    if name.startswith("URAMSHEG_REFUSED_") and getattr(lib, name) not in REFUSALS:
+        raise ImportError(f"{name} of uramsheg.h has no class here: build the package and its archive from one")
+
+
+def kind_of(number):
+    """The class of a refusal's number."""
+    if number not in REFUSALS:
+        raise RuntimeError(f"libalp_c.a answered {number}, which uramsheg.h does not name: build both from one")
+    return REFUSALS[number]

@@ -1,0 +1,75 @@
+"""The C face through ctypes: its signatures are written here a second time, from include/uramsheg.h, and nothing of the package is used."""
+import ctypes as c
+import struct
+from pathlib import Path
+
+ROOT = Path(__file__).resolve().parents[3]
+library = c.CDLL(str(ROOT / "target" / "python" / "libalp_c.so"))
+SIZE, FLOAT, U64 = c.c_size_t, c.c_float, c.POINTER(c.c_uint64)
+OCTETS, FLOATS = c.POINTER(c.c_uint8), c.POINTER(FLOAT)
+SIGNATURES = {
+    "uramsheg_detect": [OCTETS, SIZE, *[FLOAT] * 5, SIZE, SIZE, SIZE, *[FLOATS, SIZE] * 4, OCTETS, SIZE, U64],
+    "uramsheg_join": [OCTETS, SIZE, SIZE, SIZE, OCTETS, SIZE, OCTETS, SIZE, U64],
+    "uramsheg_correct": [OCTETS, SIZE, *[FLOAT] * 5, c.c_bool, FLOATS],
+    "uramsheg_octave_count": [SIZE, SIZE],
+    "uramsheg_downsample": [SIZE, SIZE, FLOATS, SIZE, FLOATS, SIZE, U64, U64],
+    "uramsheg_set_check": [OCTETS, SIZE],
+}
+for name, kinds in SIGNATURES.items():
+    function = getattr(library, name)
+    function.argtypes, function.restype = kinds, c.c_uint32
+
+
+def octets(data):
+    """Bytes as a slice."""
+    return (c.c_uint8 * max(len(data), 1)).from_buffer_copy(data.ljust(1, b"\0")), len(data)
+
+
+def by_columns(level):
+    """A level's floats as a slice: pixel (row, col) at col * rows + row."""
+    rows, cols = level.shape
+    values = [float(level[row, col]) for col in range(cols) for row in range(rows)]
+    return (FLOAT * max(len(values), 1))(*values), len(values)
+
+
+def detect(record, thresholds, levels, octave, room, shape=None):
+    """The number, the value and the bytes of `out`, which has room for as many records."""
+    rows, cols = shape or levels[0].shape
+    out, value = (c.c_uint8 * max(40 * room, 1))(), c.c_uint64(77)
+    slices = [part for level in levels for part in by_columns(level)]
+    number = library.uramsheg_detect(*octets(record), *thresholds, rows, cols, octave, *slices, out, 40 * room, value)
+    return number, value.value, bytes(out)[: 40 * room]
+
+
+def join(record, shape, listed, room):
+    """The number, the value and the bytes of `out`."""
+    out, value = (c.c_uint8 * max(room, 1))(), c.c_uint64(77)
+    number = library.uramsheg_join(*octets(record), *shape, *octets(listed), out, room, value)
+    return number, value.value, bytes(out)[:room]
+
+
+def correct(record, samples, sigma, is_max):
+    """The number and the corrected sigma."""
+    corrected = FLOAT(-1)
+    return library.uramsheg_correct(*octets(record), *samples, sigma, is_max, corrected), corrected.value
+
+
+def downsample(level):
+    """The number, the new sides and the floats."""
+    rows, cols = level.shape
+    out, half_rows, half_cols = (FLOAT * max(rows * cols, 1))(), c.c_uint64(77), c.c_uint64(77)
+    number = library.uramsheg_downsample(rows, cols, *by_columns(level), out, rows * cols, half_rows, half_cols)
+    sides = half_rows.value, half_cols.value
+    return number, sides, list(out)[: sides[0] * sides[1]] if not number else []
+
+
+def good(record):
+    """Whether a set record is good."""
+    return library.uramsheg_set_check(*octets(record)) == 0
+
+
+def case(name):
+    """A stored case of the list program: the set, the thresholds, the sides, the octave and the levels' floats by columns."""
+    raw = (ROOT / "crates" / name / "stdin").read_bytes()
+    rows, cols, octave = struct.unpack("<3I", raw[548:560])
+    return raw[:528], struct.unpack("<5f", raw[528:548]), (rows, cols), octave, struct.unpack(f"<{4 * rows * cols}f", raw[560:])

@@ -1,0 +1,115 @@
+"""Every function against the C face, byte for byte."""
+import cface
+import numpy as np
+import odd
+import pytest
+from hypothesis import given, strategies as st
+
+import uramsheg as u
+
+T = cface.case("list")[0]
+SETS = {"T": T, "standard": u.standard().to_bytes()}
+PEAKS = st.sampled_from([0.0, 0.01, 0.1, -1.0, float("inf")])
+
+
+def same_as_c(four, levels, record, thresholds, octave):
+    """Detection and the join of the package and of the C face give the same bytes; answers the number of spots."""
+    spots = u.detect(levels, record, thresholds, octave, room=1)
+    number, value, out = cface.detect(record, thresholds, four, octave, len(spots) + 1)
+    assert (number, value) == (0, len(spots))
+    assert spots.tobytes() == out[: spots.nbytes] and not any(out[spots.nbytes:])
+    sized = u.join(spots, record, four[0].shape)
+    assert (0, len(sized), sized.tobytes()) == cface.join(record, four[0].shape, spots.tobytes(), 52 * len(spots))
+    return len(spots)
+
+
+def test_map_m(m):
+    spots = u.detect(m.levels(), m.set, m.thresholds, m.octave)
+    assert spots.tobytes() == m.line
+    (sized,) = u.join(spots, m.set, m.shape)
+    assert (sized["x"], sized["y"], sized["sigma"], sized["peak"], sized["key"]) == (4.5, 4, 2, 4, 44)
+    assert (sized["row"], sized["col"], sized["accepted"], sized["is_max"]) == (4, 4, True, True)
+    assert f"{sized['size']:.6f}" == "2.828427"
+
+
+@pytest.mark.parametrize("name", ["list_p10", "list_p11"])
+def test_stored_cases(name):
+    record, thresholds, shape, octave, floats = cface.case(name)
+    levels = [np.array(level, "f4").reshape(shape, order="F") for level in np.reshape(floats, (4, -1))]
+    *lines, _, count = (cface.ROOT / "crates" / name / "stdout").read_text().split()
+    assert [spot.tobytes().hex() for spot in u.detect(levels, record, thresholds, octave)] == lines and int(count) == len(lines)
+
+
+@given(odd.SHAPES, st.integers(0, 2**32 - 1), st.integers(0, 3), st.sampled_from(sorted(odd.DRESSES)), st.sampled_from(sorted(SETS)), PEAKS,
+       st.integers(0, 5))
+def test_same_bytes_whatever_the_array(shape, seed, lost, dress, name, peak, octave):
+    four = odd.maps(name, shape, seed, lost)
+    levels = [odd.DRESSES[dress](level) for level in four]
+    before = [np.ma.getdata(level).tobytes() for level in levels]
+    same_as_c(four, levels, SETS[name], (peak, 0.0, 12.1, 1.0, 5.0), octave)
+    assert before == [np.ma.getdata(level).tobytes() for level in levels]
+
+
+@pytest.mark.parametrize("name", sorted(SETS))
+def test_the_maps_of_the_property_hold_spots(name):
+    fours = [odd.maps(name, (21, 20), seed, 1) for seed in range(12)]
+    assert sum(same_as_c(four, four, SETS[name], (0.01, 0.0, 12.1, 1.0, 5.0), 0) for four in fours) > 11
+
+
+def test_integers_and_halves_are_numbers_too():
+    four = [np.rint(4 * level) for level in odd.maps("standard", (20, 18), 3, 0)]
+    for kind in ("i1", "i8", ">i4", "f2"):
+        same_as_c(four, [level.astype(kind) for level in four], T, (0.1, 0.0, 12.1, 1.0, 5.0), 0)
+
+
+def test_a_number_beyond_float32_is_infinite():
+    level = np.full((9, 10), 1e300)
+    assert len(u.detect([level] * 4, T, (1,))) == 0 and np.isinf(u.downsample(level)).all()
+
+
+def test_lists_of_rows_are_maps(m):
+    assert u.detect([level.tolist() for level in m.levels()], m.set, m.thresholds).tobytes() == m.line
+
+
+@given(odd.SHAPES, st.integers(0, 2**32 - 1), st.sampled_from(sorted(odd.DRESSES)))
+def test_downsample(shape, seed, dress):
+    level = odd.maps("standard", shape, seed, 2)[0]
+    half = u.downsample(odd.DRESSES[dress](level))
+    number, sides, floats = cface.downsample(level)
+    assert number == 0 and half.shape == sides and half.dtype == np.float32 and half.flags.f_contiguous
+    assert np.array_equal(half.ravel(order="F"), np.array(floats, "f4"), equal_nan=True)
+    whole = shape[0] > 1 and shape[1] > 1
+    assert np.array_equal(half, level[: 2 * sides[0] : 2, : 2 * sides[1] : 2], equal_nan=True) and whole == (sides != (0, 0))
+
+
+FLOATS = st.floats(width=32)
+
+
+@given(st.tuples(FLOATS, FLOATS, FLOATS, FLOATS), FLOATS, st.booleans(), st.sampled_from(sorted(SETS)))
+def test_correct(samples, sigma, is_max, name):
+    number, value = cface.correct(SETS[name], samples, sigma, is_max)
+    try:
+        assert (number, value) == (0, u.correct(samples, SETS[name], sigma, is_max))
+    except u.NoSizeRefused:
+        assert number == 7
+
+
+def test_correct_gives_the_join_s_size(m):
+    (sized,) = u.join(u.detect(m.levels(), m.set, m.thresholds), m.set, m.shape)
+    assert u.correct(sized["samples"], m.set, sized["sigma"], sized["is_max"]) == sized["size"]
+
+
+@given(st.integers(0, 5000), st.integers(0, 2**64 - 1))
+def test_octave_count(rows, cols):
+    assert u.octave_count(rows, cols) == cface.library.uramsheg_octave_count(rows, cols)
+
+
+def test_a_set_by_name_or_by_bytes(m):
+    for tables in (m.set, bytearray(m.set), memoryview(m.set), u.Tables.from_bytes(m.set)):
+        assert u.detect(m.levels(), tables, u.Thresholds(*m.thresholds)).tobytes() == m.line
+
+
+def test_size_is_the_join(m):
+    spots = u.detect(m.levels(), m.set, m.thresholds)
+    assert u.size(spots, m.set, m.shape).tobytes() == u.join(spots, m.set, m.shape).tobytes()
+    assert u.join(spots.tobytes(), m.set, m.shape).tobytes() == u.join(spots, m.set, m.shape).tobytes()

@@ -1,0 +1,38 @@
+"""The records as numpy types: each byte at its place, each with a name."""
+import re
+
+import cface
+import numpy as np
+import pytest
+
+import uramsheg as u
+from uramsheg._native import lib
+
+HEADER = (cface.ROOT / "include" / "uramsheg.h").read_text()
+
+
+@pytest.mark.parametrize("kind, width", [(u.SET, lib.URAMSHEG_SET_BYTES), (u.SPOT, lib.URAMSHEG_SPOT_BYTES), (u.SIZED, lib.URAMSHEG_SIZED_BYTES)])
+def test_every_byte_has_a_name(kind, width):
+    assert kind.itemsize == width == sum(kind[name].itemsize for name in kind.names)
+    assert [kind.fields[name][1] for name in kind.names] == [sum(kind[before].itemsize for before in kind.names[:place]) for place in range(len(kind.names))]
+
+
+def test_the_places_are_the_header_s():
+    places = {name: kind.fields[name][1] for kind in (u.SPOT, u.SIZED) for name in kind.names}
+    said = {"x": r"(\d+) x,", "y": r"(\d+) y,", "sigma": r"(\d+) sigma,", "peak": r"(\d+) peak,", "samples": r"(\d+) 20 24 28 the four centre samples",
+            "key": r"(\d+) order key u32", "octave": r"(\d+) octave,", "scale_index": r"(\d+) scale index", "is_max": r"(\d+) polarity",
+            "spare": r"(\d+) zero\n", "size": r"(\d+) corrected sigma f32", "row": r"(\d+) home row u16", "col": r"(\d+) home col u16",
+            "accepted": r"(\d+) accepted", "spare_sized": r"(\d+) 50 51 zero"}
+    assert {name: int(re.search(pattern, HEADER)[1]) for name, pattern in said.items()} == places
+
+
+def test_chosen_records_keep_every_byte(m):
+    spots = np.concatenate([u.detect(m.levels(), m.set, m.thresholds)] * 50)
+    for _ in range(20):
+        chosen = spots[spots["peak"] > 0]
+        assert chosen.tobytes() == m.line * 50 and len(u.join(chosen, m.set, m.shape)) == 50
+
+
+def test_a_list_in_another_order_is_sized_as_well(m):
+    spots = np.concatenate([u.detect(m.levels(), m.set, m.thresholds)] * 6)
+    assert u.join(spots[::-2], m.set, m.shape).tobytes() == u.join(spots[:3], m.set, m.shape).tobytes()

@@ -1,0 +1,156 @@
+"""Every refusal: its class, its number, its index, its words; and that it is the C face's own."""
+import pickle
+
+import cface
+import numpy as np
+import pytest
+from hypothesis import given, strategies as st
+
+import uramsheg as u
+from uramsheg import refusals
+from uramsheg._native import lib
+
+T = cface.case("list")[0]
+NAN = float("nan")
+GIVEN = (1.0, 1.0, 10.0, 1.9027314, 4.1498866)
+M = np.zeros((9, 10), "f4")
+ANSWERS_8 = cface.detect(T, (NAN, *GIVEN[1:]), [M] * 4, 0, 0)[0] == refusals.THRESHOLDS
+
+
+def refused(kind, call, *given, **named):
+    """The refusal that a call raises."""
+    with pytest.raises(u.Refused) as caught:
+        call(*given, **named)
+    assert type(caught.value) is kind and str(caught.value).startswith(f"refused {kind.number}: {kind.why}")
+    return caught.value
+
+
+def test_each_number_of_the_header_has_a_class():
+    named = {getattr(lib, name) for name in dir(lib) if name.startswith("URAMSHEG_REFUSED_")}
+    assert named | {refusals.THRESHOLDS} == set(refusals.REFUSALS) and set(range(1, 8)) <= named
+    for kind in refusals.REFUSALS.values():
+        assert issubclass(kind, u.Refused) and issubclass(kind, ValueError) and kind.why and getattr(u, kind.__name__) is kind
+
+
+def test_1_size(m):
+    for shape in ((4097, 3), (3, 4097)):
+        wide = np.zeros(shape, "f4", order="F")
+        assert "4097" in str(refused(u.SizeRefused, u.detect, [wide] * 4, b"", GIVEN, 6))
+        refused(u.SizeRefused, u.downsample, wide)
+        refused(u.SizeRefused, u.join, b"1", b"", shape)
+    assert len(u.detect([np.zeros((4096, 3), "f4")] * 4, m.set, GIVEN)) == 0
+
+
+@pytest.mark.parametrize("shape", [(9, 9), (10, 9), (90, 1), (0, 0), (9, 11)])
+@pytest.mark.parametrize("place", [1, 2, 3])
+def test_2_level(m, shape, place):
+    levels = m.levels()
+    levels[place] = np.zeros(shape, "f4")
+    error = refused(u.LevelRefused, u.detect, levels, b"", (NAN,) * 5, 6)
+    assert error.detail.split(", ")[place] == f"{shape[0]} by {shape[1]}" and error.index is None
+
+
+def test_2_level_where_both_hold_nothing():
+    refused(u.LevelRefused, u.detect, [np.zeros((0, 5)), np.zeros((5, 0)), np.zeros((0, 5)), np.zeros((0, 5))], T, GIVEN)
+
+
+def test_2_comes_after_1():
+    refused(u.SizeRefused, u.detect, [np.zeros((4097, 1)), *[np.zeros((1, 4097))] * 3], T, GIVEN)
+
+
+def test_3_octave(m):
+    assert "octave 6" in str(refused(u.OctaveRefused, u.detect, m.levels(), b"", (NAN,) * 5, 6))
+    refused(u.OctaveRefused, u.detect, m.levels(), m.set, GIVEN, 2**64 - 1)
+    assert len(u.detect(m.levels(), m.set, m.thresholds, 5)) == 1
+
+
+def test_4_set(m):
+    bad = m.set[:4] + b"\xff\xff\xff\xff" + m.set[8:527] + b"\1"
+    for call in (lambda: u.detect(m.levels(), bad, GIVEN), lambda: u.join(b"1", bad, m.shape), lambda: u.correct((1, 2, 3, 4), bad, 2, True),
+                 lambda: u.read_set(bad)):
+        assert refused(u.SetRefused, call).detail == "sigmas[1] is not finite; spare[2] is 1, not 0"
+    assert "527 bytes" in str(refused(u.SetRefused, u.read_set, m.set[:-1]))
+    assert u.read_set(m.set).to_bytes() == m.set
+
+
+def test_5_records(m):
+    spots = np.concatenate([u.detect(m.levels(), m.set, m.thresholds)] * 3)
+    bad = spots.copy()
+    bad["key"][1:] = 90
+    assert refused(u.RecordsRefused, u.join, bad, m.set, m.shape).index == 1
+    error = refused(u.RecordsRefused, u.join, spots.tobytes()[:-1], m.set, m.shape)
+    assert error.index == 2 and "119 bytes are 2 records and 39 bytes more" in str(error)
+
+
+@given(st.integers(0, 119), st.integers(0, 255), st.integers(0, 120))
+def test_5_is_the_c_face_s_own(place, byte, length):
+    record, thresholds, shape, octave, floats = cface.case("list")
+    levels = [np.array(level, "f4").reshape(shape, order="F") for level in np.reshape(floats, (4, -1))]
+    listed = bytearray(np.concatenate([u.detect(levels, record, thresholds)] * 3).tobytes())
+    listed[place] = byte
+    number, value, out = cface.join(record, shape, bytes(listed[:length]), 52 * (length // 40))
+    try:
+        assert (number, u.join(listed[:length], record, shape).tobytes()) == (0, out)
+    except u.RecordsRefused as error:
+        assert (number, value) == (5, error.index)
+
+
+def test_6_room(m):
+    spots = np.concatenate([u.detect(m.levels(), m.set, m.thresholds)] * 2)
+    out = np.zeros(1, u.SIZED)
+    refused(u.RoomRefused, u.join, spots, m.set, m.shape, out=out)
+    assert not out.tobytes().strip(b"\0")
+    wide = np.zeros(3, u.SIZED)
+    sized = u.join(spots, m.set, m.shape, out=wide)
+    assert np.shares_memory(sized, wide) and sized.tobytes() == u.join(spots, m.set, m.shape).tobytes() and not wide[2].tobytes().strip(b"\0")
+
+
+def test_7_no_size(m):
+    assert refused(u.NoSizeRefused, u.correct, (-1, 4, 0, 0), m.set, 2, False).number == 7
+
+
+@pytest.mark.skipif(not ANSWERS_8, reason="the archive takes thresholds that are no numbers")
+@pytest.mark.parametrize("lost", [(0,), (1,), (2,), (3,), (4,), (0, 3), (0, 1, 2, 3, 4)])
+def test_8_thresholds(m, lost):
+    given = [NAN if place in lost else value for place, value in enumerate(GIVEN)]
+    error = refused(u.ThresholdsRefused, u.detect, m.levels(), b"", given)
+    assert error.names == tuple(u.Thresholds._fields[place] for place in lost) and error.detail == ", ".join(error.names)
+    refused(u.OctaveRefused, u.detect, m.levels(), b"", given, 6)
+
+
+@given(st.tuples(*[st.sampled_from([NAN, 0.5, 4.0])] * 5))
+def test_thresholds_that_are_no_numbers_are_the_c_face_s_matter(given):
+    levels = [M + 1, M, M, M]
+    number, value, _ = cface.detect(T, given, levels, 0, 0)
+    try:
+        assert (number, value) == (0, len(u.detect(levels, T, given)))
+    except u.ThresholdsRefused as error:
+        assert number == error.number and error.names == tuple(name for name, one in zip(u.Thresholds._fields, given) if one != one)
+
+
+@pytest.mark.parametrize("error", [u.SizeRefused("5000 by 3"), u.RecordsRefused("record 3", 3), u.ThresholdsRefused(["peak", "low"]), u.NoSizeRefused()])
+def test_a_refusal_travels_between_processes(error):
+    again = pickle.loads(pickle.dumps(error))
+    assert (type(again), str(again), vars(again)) == (type(error), str(error), vars(error))
+
+
+def test_what_is_no_argument_is_no_refusal(m):
+    levels = m.levels()
+    wrong = [
+        lambda: u.detect(levels[:3], m.set, GIVEN), lambda: u.detect([np.zeros(90)] * 4, m.set, GIVEN), lambda: u.detect([M > 0] * 4, m.set, GIVEN),
+        lambda: u.detect([M + 1j] * 4, m.set, GIVEN), lambda: u.detect(levels, "standard", GIVEN), lambda: u.detect(levels, 528, GIVEN),
+        lambda: u.detect(levels, m.set, GIVEN, 0.5), lambda: u.detect(levels, m.set, (1,) * 6), lambda: u.join(M, m.set, m.shape),
+        lambda: u.join(b"", m.set, m.shape, out=M), lambda: u.correct((1, 2, 3), m.set, 1, True), lambda: u.octave_count("9", 9),
+    ]
+    for call in wrong:
+        pytest.raises(TypeError, call)
+    for call in (lambda: u.detect(levels, m.set, GIVEN, -1), lambda: u.octave_count(-1, 9), lambda: u.octave_count(9, 2**64)):
+        with pytest.raises(ValueError) as caught:
+            call()
+        assert not isinstance(caught.value, u.Refused)
+
+
+def test_out_and_spots_must_not_overlap(m):
+    room = np.zeros(52, "u1")
+    spots = room[:40].view(u.SPOT)
+    pytest.raises(ValueError, u.join, spots, m.set, m.shape, out=room.view(u.SIZED))
