@@ -1,5 +1,7 @@
 """Uramsheg: the spots of a gas map that stand out at one size. Every call ends, whatever it is given; a refused one raises a `Refused`."""
 from .detector import Thresholds, correct, detect, downsample, join, octave_count, read_set
+from .finding import FOUND, Found, Judged, find
+from .grid import Grid
 from .records import SET, SIZED, SPOT
 from .refusals import (
     LevelRefused,
@@ -19,7 +21,7 @@ size = join
 
 __version__ = "0.1.0"
 __all__ = [
-    "LevelRefused", "NoSizeRefused", "OctaveRefused", "RecordsRefused", "Refused", "RoomRefused", "SET", "SIZED", "SPOT", "SetRefused", "SizeRefused",
-    "Tables", "TablesFault", "Thresholds", "ThresholdsRefused", "correct", "detect", "downsample", "join", "octave_count", "read_set", "size",
-    "standard",
+    "FOUND", "Found", "Grid", "Judged", "LevelRefused", "NoSizeRefused", "OctaveRefused", "RecordsRefused", "Refused", "RoomRefused", "SET", "SIZED",
+    "SPOT", "SetRefused", "SizeRefused", "Tables", "TablesFault", "Thresholds", "ThresholdsRefused", "correct", "detect", "downsample", "find", "join",
+    "octave_count", "read_set", "size", "standard",
 ]

@@ -1,0 +1,60 @@
+"""The scene's stand-in: tiles list what the whole map lists; which pixels were judged."""
+import numpy as np
+import pytest
+from hypothesis import given, strategies as st
+
+import uramsheg as u
+from uramsheg import levels, scene
+
+TABLES = u.standard()
+MAPS = [levels.build(np.random.default_rng(seed).normal(size=shape), TABLES) for seed, shape in enumerate([(70, 90), (33, 41), (32, 157), (90, 24)])]
+
+
+@pytest.mark.parametrize("four", MAPS)
+@pytest.mark.parametrize("side", [17, 32, 33, 64])
+def test_tiles_list_what_the_whole_map_lists(four, side):
+    rows, cols = four[0].shape
+    whole = u.join(u.detect(four, TABLES, (0.02,)), TABLES, four[0].shape)
+    records, corners = scene.listed(four, TABLES, (0.02,), side=side)
+    row, col = records["row"] + corners[:, 0], records["col"] + corners[:, 1]
+    records = records[np.lexsort((records["is_max"], col, row))]
+    assert len(whole) > 0 and np.array_equal(np.sort(row * cols + col), whole["key"])
+    for name in ("sigma", "peak", "samples", "octave", "scale_index", "is_max", "size", "accepted"):
+        assert records[name].tobytes() == whole[name].tobytes()
+
+
+@given(st.integers(0, 400), st.integers(9, 90))
+def test_every_judged_pixel_is_in_one_tile(length, side):
+    judged = [place for start, end in scene.tiles(length, side) for place in range(start + 4, end - 4)]
+    assert judged == list(range(4, length - 4))
+    assert all(end - start <= side for start, end in scene.tiles(length, side))
+
+
+@given(st.integers(0, 40), st.integers(0, 40), st.sampled_from([2, 8, 16]))
+def test_halved_tile_by_tile(rows, cols, side):
+    level = np.random.default_rng(rows * 41 + cols).normal(size=(rows, cols)).astype("f4")
+    assert scene.halved(level, side=side).tobytes("F") == u.downsample(level).tobytes("F") and scene.halved(level, side=side).shape == u.downsample(level).shape
+
+
+@given(st.integers(0, 2**32 - 1), st.integers(0, 3))
+def test_a_lost_pixel_strikes_its_spots_and_no_others(seed, level):
+    rng = np.random.default_rng(seed)
+    four = MAPS[seed % len(MAPS)]
+    rows, cols = four[0].shape
+    full = u.detect(four, TABLES, (0.02,))
+    lost = [array.copy(order="F") for array in four]
+    place = rng.integers(rows), rng.integers(cols)
+    lost[level][place] = np.nan
+    down, right = abs(full["key"].astype(int) // cols - place[0]), abs(full["key"].astype(int) % cols - place[1])
+    struck = (down <= 2) & (right <= 2) & (down + right < 4)
+    assert u.detect(lost, TABLES, (0.02,)).tobytes() == full[~struck].tobytes()
+    assert np.array_equal(scene.judged(lost)[full["key"] // cols, full["key"] % cols], ~struck)
+
+
+def test_what_is_judged():
+    flat = [np.zeros((20, 15), "f4") for _ in range(4)]
+    assert scene.judged(flat).sum() == 12 * 7 and scene.judged(flat)[4:-4, 4:-4].all()
+    flat[2][10, 7] = np.inf
+    assert scene.judged(flat).sum() == 12 * 7 - 21
+    for shape in ((8, 20), (20, 8), (0, 0)):
+        assert not scene.judged([np.zeros(shape)] * 4).any()
