@@ -11,6 +11,12 @@ settings.register_profile("gate", max_examples=EXAMPLES, derandomize=True, deadl
 settings.load_profile("gate")
 
 
+def pytest_configure(config):
+    """A warning is a failure, but for two of libraries: one built with another numpy, and rasterio's when a map without a place is written."""
+    for line in ("error", "ignore:numpy.ndarray size changed", "ignore:The given matrix is equal to Affine.identity"):
+        config.addinivalue_line("filterwarnings", line)
+
+
 class MapM:
     """Document 01's worked case, as the list program's stored input holds it."""
 

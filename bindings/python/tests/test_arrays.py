@@ -55,7 +55,7 @@ def test_calls_at_the_same_time_answer_as_alone():
 
 
 @pytest.mark.parametrize("room", [0, 1, 2, 3, 4096])
-def test_room_grows(m, room):
+def test_room_grows(room):
     four = odd.maps("standard", (60, 50), 2, 0)
     few = u.detect(four, u.standard(), (0.0,), room=room)
     assert len(few) > 3 and few.tobytes() == u.detect(four, u.standard(), (0.0,)).tobytes()

@@ -2,6 +2,7 @@
 import blob
 import numpy as np
 import pytest
+import xarray
 from hypothesis import given, settings, strategies as st
 
 import uramsheg as u
@@ -45,8 +46,9 @@ def test_a_field_of_known_spots(noise, low_size, place, bias, spread):
     for x, y, size, height in known:
         near = small[np.hypot(small["x"] - x, small["y"] - y) < size / 2]
         assert len(near) == 1
-        errors.append((np.hypot(near["x"][0] - x, near["y"][0] - y), near["size"][0] / size - 1))
+        errors.append((np.hypot(near["x"][0] - x, near["y"][0] - y), near["size"][0] / size - 1, near["height"][0] / height - 1))
     errors = np.array(errors)
+    assert -0.04 < errors[:, 2].mean() < -0.025
     assert errors[:, 0].mean() < place and abs(errors[:, 1].mean()) < bias and errors[:, 1].std() < spread
 
 
@@ -153,6 +155,18 @@ def test_masked_maps_and_whole_numbers():
 def test_a_spot_between_two_pixels_ties_and_is_not_listed():
     """Document 01: a peak strictly beats its neighbours."""
     assert len(u.find(blob.spots((64, 64), (30.5, 32, 3, 100)), peak=10, octaves=[0]).spots) == 0
+
+
+def test_pandas_and_xarray():
+    raw = blob.spots((70, 81), SPOT)
+    array = xarray.DataArray(raw, dims=("y", "x"), coords={"y": 5000000 - 5 * np.arange(70.0), "x": 600000 + 5 * np.arange(81.0)}, name="ch4")
+    array["x"].attrs["units"] = "m"
+    found = u.find(array, peak=10)
+    same = u.find(raw, peak=10, grid=u.Grid((5, 0, 599997.5, 0, -5, 5000002.5), metres=1))
+    assert found.spots.tobytes() == same.spots.tobytes() and found.spots["map_x"][0] == pytest.approx(600000 + 5 * 40.3, abs=0.05)
+    frame, data = found.to_pandas(), found.to_xarray()
+    assert list(frame.columns) == list(u.FOUND.names) == list(data) and len(frame) == data.sizes["spot"] == 1
+    assert all(frame[name][0] == found.spots[name][0] == data[name].values[0] for name in u.FOUND.names)
 
 
 def test_what_is_no_argument():

@@ -84,7 +84,7 @@ def test_5_records(m):
 
 @given(st.integers(0, 119), st.integers(0, 255), st.integers(0, 120))
 def test_5_is_the_c_face_s_own(place, byte, length):
-    record, thresholds, shape, octave, floats = cface.case("list")
+    record, thresholds, shape, _, floats = cface.case("list")
     levels = [np.array(level, "f4").reshape(shape, order="F") for level in np.reshape(floats, (4, -1))]
     listed = bytearray(np.concatenate([u.detect(levels, record, thresholds)] * 3).tobytes())
     listed[place] = byte

@@ -13,7 +13,7 @@ MAPS = [levels.build(np.random.default_rng(seed).normal(size=shape), TABLES) for
 @pytest.mark.parametrize("four", MAPS)
 @pytest.mark.parametrize("side", [17, 32, 33, 64])
 def test_tiles_list_what_the_whole_map_lists(four, side):
-    rows, cols = four[0].shape
+    cols = four[0].shape[1]
     whole = u.join(u.detect(four, TABLES, (0.02,)), TABLES, four[0].shape)
     records, corners = scene.listed(four, TABLES, (0.02,), side=side)
     row, col = records["row"] + corners[:, 0], records["col"] + corners[:, 1]

@@ -3,7 +3,7 @@ from typing import NamedTuple
 
 import numpy as np
 
-from . import doubles, levels, scene
+from . import doubles, levels, maps, scene
 from .detector import Thresholds, octave_count, read_set
 from .grid import Grid
 from .tables import standard
@@ -38,9 +38,21 @@ class Found(NamedTuple):
     unit: float
     grid: Grid
 
+    def to_pandas(self):
+        """The spots as a DataFrame."""
+        import pandas
+
+        return pandas.DataFrame({name: self.spots[name] for name in FOUND.names})
+
+    def to_xarray(self):
+        """The spots as a Dataset along the dimension `spot`."""
+        import xarray
+
+        return xarray.Dataset({name: ("spot", self.spots[name]) for name in FOUND.names})
+
 
 def find(values, tables=None, *, peak=None, snr=None, thresholds=None, ground="median", kind="bright", octaves=None, grid=None, lost=None):
-    """The spots of a raw map of rows by cols, NaN where a pixel is lost.
+    """The spots of a raw map of rows by cols, NaN where a pixel is lost: an array, or a DataArray of xarray's, which brings its grid with it.
 
     A spot is listed where its peak, which is about half its height, is beyond `peak` in the map's unit and its signal to noise is at least `snr`; where
     neither is given, `snr` is 8. `thresholds` gives the other four (its own peak does not count). `ground` is taken off first, the median or a number, in
@@ -51,6 +63,9 @@ def find(values, tables=None, *, peak=None, snr=None, thresholds=None, ground="m
     if kind not in ("bright", "dark", "both"):
         raise ValueError(f"kind is {kind!r}, not bright, dark or both")
     tables = standard() if tables is None else read_set(tables)
+    if hasattr(values, "coords"):
+        values, own, *_ = maps.of_xarray(values)
+        grid = own if grid is None else grid
     grid = Grid() if grid is None else grid
     rest = Thresholds(0.0) if thresholds is None else Thresholds(*map(float, thresholds))
     base, ground = grounded(values, ground)

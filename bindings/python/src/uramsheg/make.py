@@ -105,6 +105,7 @@ def fit_geometry(sigmas, low, high, count=21):
     rows, answers = [], []
 
     def ask(powers_at, differences, answer, weight=1.0):
+        """One equation for the cubic's twelve entries."""
         rows.append(weight * np.outer(powers_at, differences).ravel())
         answers.append(weight * answer)
 

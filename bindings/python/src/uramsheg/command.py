@@ -1,0 +1,216 @@
+"""uramsheg on the command line."""
+import os
+import sys
+from concurrent.futures import ProcessPoolExecutor
+from pathlib import Path
+from typing import NamedTuple
+
+import numpy as np
+
+from . import __version__, maps, output
+from .detector import Thresholds
+from .finding import find
+from .options import parser
+from .refusals import Refused
+from .tables import TablesFault, load, standard
+
+class Failed(Exception):
+    """What ends the command: its exit code and a line for people."""
+
+    def __init__(self, code, words):
+        super().__init__(code, words)
+        self.code, self.words = code, words
+
+
+def set_named(name):
+    """The set `standard`, or the one in a file."""
+    try:
+        return standard() if name == "standard" else load(name)
+    except OSError as error:
+        raise Failed(3, f"{name}: {error.strerror}") from None
+    except TablesFault as error:
+        raise Failed(3, f"{name}: neither a set record nor a set in TOML: {error}") from None
+    except Refused as error:
+        raise Failed(10 + error.number, f"{name}: {error}") from None
+
+
+def read_map(path, options):
+    """The map in a file."""
+    try:
+        return maps.read(path, band=options.band, variable=options.variable)
+    except ImportError as error:
+        raise Failed(3, f"{path}: to read it the Python package {error.name} is needed") from None
+    except OSError as error:
+        raise Failed(3, f"{path}: {error.strerror or error}") from None
+    except ValueError as error:
+        raise Failed(3, f"{path}: {error}") from None
+
+
+class Answer(NamedTuple):
+    """What one map came to: lines for standard output, or a failure."""
+
+    lines: list
+    code: int = 0
+    words: str = ""
+
+
+def one_map(path, options):
+    """All the work on one map."""
+    try:
+        given = read_map(path, options)
+        rest = Thresholds(0.0, options.curvature, options.ratio, *options.window)
+        try:
+            found = find(given.values, set_named(options.set), peak=options.peak, snr=options.snr, thresholds=rest, ground=options.ground,
+                         kind=options.kind, octaves=options.octaves, grid=given.grid)
+        except Refused as error:
+            raise Failed(10 + error.number, f"{path}: {error}") from None
+        write_all(path, given, found, options)
+        return Answer(lines_of(path, given, found, options))
+    except Failed as failure:
+        return Answer([], failure.code, failure.words)
+
+
+def write_all(path, given, found, options):
+    """The files that were asked for."""
+    numbers = about(path, given, found, options)
+    for name, write in ((options.output, lambda to: output.save(to, found, numbers)), (options.picture, lambda to: draw(to, given, found))):
+        if name is None:
+            continue
+        to = name.replace("{name}", given.name)
+        try:
+            write(to)
+        except ImportError as error:
+            raise Failed(4, f"{to}: to write it the Python package {error.name} is needed") from None
+        except OSError as error:
+            raise Failed(4, f"{to}: {error.strerror or error}") from None
+        except ValueError as error:
+            raise Failed(2, str(error)) from None
+
+
+def draw(path, given, found):
+    """The picture."""
+    from . import picture
+
+    output.whole(path, lambda aside: picture.page(given, found).savefig(aside, dpi=100))
+
+
+def about(path, given, found, options):
+    """The numbers of the run."""
+    return {
+        "version": __version__, "map": os.path.basename(path), "set": os.path.basename(options.set), "unit": given.unit, "ground": found.ground,
+        "noise": found.noise, "judged": [{"octave": one.octave, "sigma_px": [one.low, one.high], "share": share(one)} for one in found.judged],
+    }
+
+
+def share(judged):
+    """The share of an octave's pixels that was judged."""
+    return round(float(judged.mask.mean()), 4)
+
+
+def lines_of(path, given, found, options):
+    """The list for people: the ten strongest, and what was judged."""
+    if options.quiet:
+        return []
+    count = len(found.spots)
+    lines = [f"{path}: {count} spot{'' if count == 1 else 's'}; ground {found.ground:.6g}, noise {found.noise:.3g} {given.unit}".rstrip()]
+    table = output.columns(found)
+    if count:
+        lines.append(f"{'rank':>4} {'map x':>14} {'map y':>14} {'height':>10} {'snr':>8} {'size':>10}  kind")
+    for place in range(min(count, 10)):
+        row = {name: values[place] for name, values in table.items()}
+        size = "none" if row["size_px"] is None else f"{row['size_px']:.2f} px" if row["size_m"] is None else f"{row['size_m']:.1f} m"
+        snr = "" if row["snr"] is None else f"{row['snr']:.1f}"
+        lines.append(f"{row['rank']:4d} {row['map_x']:14.4f} {row['map_y']:14.4f} {row['height']:10.4g} {snr:>8} {size:>10}  {row['kind']}")
+    if count > 10:
+        lines.append(f"... and {count - 10} more")
+    judged = [f"{100 * share(one):.0f} % for sigmas {one.low:.3g} to {one.high:.3g} px" for one in found.judged]
+    return lines + ["judged: " + ("; ".join(judged) or "nothing, the map is too small")]
+
+
+def detect(options):
+    """Lists the spots of maps, in the order in which they were named."""
+    set_named(options.set)
+    several = len(options.maps) > 1
+    for name in (options.output, options.picture):
+        if name is not None and several and "{name}" not in name:
+            raise Failed(2, f"{name}: with several maps an output's name needs {{name}} in it, as in spots/{{name}}.geojson")
+    failures = []
+    for answer in worked(options):
+        for line in answer.lines:
+            print(line)
+        if answer.code:
+            failures.append(answer)
+            print(f"uramsheg: {answer.words}", file=sys.stderr)
+    if failures:
+        if several:
+            raise Failed(5, f"{len(failures)} of {len(options.maps)} maps failed")
+        raise Failed(failures[0].code, "")
+
+
+def worked(options):
+    """The answers, one map after another or several at a time."""
+    if options.jobs == 1 or len(options.maps) == 1:
+        yield from (one_map(path, options) for path in options.maps)
+        return
+    with ProcessPoolExecutor(options.jobs) as pool:
+        yield from pool.map(one_map, options.maps, [options] * len(options.maps))
+
+
+def info(options):
+    """Says what a map is."""
+    given = read_map(options.map, options)
+    rows, cols = given.values.shape
+    finite = given.values[np.isfinite(given.values)]
+    print(f"{options.map}: {rows} rows by {cols} cols, {given.values.size - len(finite)} pixels lost")
+    if len(finite):
+        print(f"values {finite.min():.6g} to {finite.max():.6g}, median {np.median(finite):.6g} {given.unit}".rstrip())
+    side = given.grid.pixel(np.array([cols / 2]), np.array([rows / 2]))[0]
+    print(f"transform {', '.join(f'{number:.10g}' for number in given.grid.transform)}; a pixel is " + ("of unknown size" if np.isnan(side) else f"{side:.6g} m"))
+
+
+def set_make(options):
+    """Makes the set standard anew, or one in the same way for other sigmas."""
+    from . import make
+
+    tables = make.made(options.sigmas or make.SIGMAS)
+    if options.output is None:
+        print(tables.to_toml(), end="")
+        return
+    try:
+        octets = tables.to_toml().encode() if options.output.endswith(".toml") else tables.to_bytes()
+        output.whole(options.output, lambda aside: Path(aside).write_bytes(octets))
+    except OSError as error:
+        raise Failed(4, f"{options.output}: {error.strerror}") from None
+
+
+def set_show(options):
+    """Shows a set as TOML."""
+    print(set_named(options.set).to_toml(), end="")
+
+
+def set_check(options):
+    """Says that a set is good, or everything that is wrong with it."""
+    set_named(options.set)
+    print(f"{options.set}: good")
+
+
+#: what does each command's work
+RUNS = {"detect": detect, "info": info, "make": set_make, "show": set_show, "check": set_check}
+
+
+def main(words=None):
+    """Runs the command; answers its exit code."""
+    options = parser(RUNS).parse_args(words)
+    try:
+        options.run(options)
+        sys.stdout.flush()
+        return 0
+    except Failed as failure:
+        if failure.words:
+            print(f"uramsheg: {failure.words}", file=sys.stderr)
+        return failure.code
+    except KeyboardInterrupt:
+        return 130
+    except BrokenPipeError:  # whoever read the list has gone
+        os.dup2(os.open(os.devnull, os.O_WRONLY), sys.stdout.fileno())
+        return 0
