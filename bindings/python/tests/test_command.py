@@ -89,11 +89,13 @@ def test_several_maps_in_their_order(here, capfd, jobs):
     (("detect", "map.npy", "-o", "spots.txt"), 2, "the known endings are"),
     (("detect", "map.npy", "-o", "spots.geojson"), 2, "this map has no reference: write .csv"),
     (("detect", "map.npy", "map.npy", "-o", "spots.csv"), 2, "with several maps an output's name needs {name} in it"),
+    (("detect", "steps.npy"), 2, "steps.npy: most neighbouring pixels are equal, so that the map shows no noise to measure by: give a peak"),
     (("info", "none.npy"), 3, "none.npy: No such file or directory"),
     (("set", "check", "bad.set"), 14, "refused 4"),
     (("set", "make", "-o", "none/a.toml"), 4, "none/a.toml: No such file or directory"),
 ])
 def test_failures(here, capsys, words, code, said):
+    np.save("steps.npy", np.arange(40 * 30).reshape(40, 30) // 300)
     (here / "text.tif").write_text("no map")
     (here / "bad.set").write_bytes(u.standard().to_bytes()[:525] + b"\1\0\0")
     before = sorted(os.listdir())

@@ -64,6 +64,8 @@ def one_map(path, options):
                          kind=options.kind, octaves=options.octaves, grid=given.grid)
         except Refused as error:
             raise Failed(10 + error.number, f"{path}: {error}") from None
+        except ValueError as error:
+            raise Failed(2, f"{path}: {error}") from None
         write_all(path, given, found, options)
         return Answer(lines_of(path, given, found, options))
     except Failed as failure:

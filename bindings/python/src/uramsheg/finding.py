@@ -29,7 +29,7 @@ class Judged(NamedTuple):
 
 
 class Found(NamedTuple):
-    """The spots of a map, strongest first, and how they were found."""
+    """The spots of a map, strongest first; what was judged; the ground that was taken off, the map's noise, and the power of two that it was divided by."""
 
     spots: np.ndarray
     judged: tuple
@@ -72,7 +72,7 @@ def find(values, tables=None, *, peak=None, snr=None, thresholds=None, ground="m
     missing = ~np.isfinite(base) if lost is None else ~np.isfinite(base) | np.asarray(lost, bool)
     noise = noise_of(base)
     unit = unit_of(base, noise)
-    least = SNR if peak is None and snr is None else snr
+    least = least_of(base, noise, peak, snr)
     parts, judged = [np.zeros(0, FOUND)], []
     for octave, four in pyramid(np.asfortranarray(base / unit, dtype=np.float32), tables, octaves):
         low, high = rest.low * 2**octave, rest.high * 2**octave
@@ -109,6 +109,14 @@ def noise_of(base):
     steps = [np.diff(base, axis=axis).ravel() for axis in (0, 1)]
     steps = np.concatenate([step[np.isfinite(step)] for step in steps])
     return float(1.4826 * np.median(abs(steps - np.median(steps))) / np.sqrt(2)) if len(steps) else 0.0
+
+
+def least_of(base, noise, peak, snr):
+    """The signal to noise that is asked for, None where only a peak is. It takes a noise to measure by, unless the map is flat."""
+    finite = base[np.isfinite(base)]
+    if peak is None and not noise and len(finite) and finite.min() < finite.max():
+        raise ValueError("most neighbouring pixels are equal, so that the map shows no noise to measure by: give a peak")
+    return SNR if peak is None and snr is None else snr
 
 
 def unit_of(base, noise):

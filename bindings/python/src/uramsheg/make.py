@@ -1,6 +1,6 @@
 """The maker of the set `standard`: run as `python3 -m uramsheg.make FILE` it writes the record anew.
 
-Nothing of it comes from the detector's authors' own fit, which was never published; PARTS says where each field comes from. The model of what is fitted:
+Nothing of it comes from the tables of the published detector, which are not here; PARTS says where each field comes from. The model of what is fitted:
 a spot is a Gaussian of standard deviation s on a flat ground, in a map whose own blur is `base` pixels. Level k blurs it to sigmas[k] with a sampled,
 cut kernel as levels are made with (`levels.half_kernel`); the sample is sigmas[k]^2 times the five-point Laplacian. In the continuum its response is
 -2 s^2 sigma^2 / (s^2 + sigma^2)^2 times the height, extreme at sigma = s.
