@@ -11,7 +11,8 @@ import uramsheg as u
 from uramsheg import arrays
 from uramsheg._native import ffi
 
-LEVEL = odd.maps("standard", (12, 11), 1, 1)[0]
+LEVEL = odd.maps("standard", (12, 11), 1, 0)[0]
+LEVEL[3, 4:6] = np.nan, np.inf
 
 
 def address(array):

@@ -34,6 +34,11 @@ def test_the_stronger_stays_and_the_finer_where_they_are_equal():
     assert doubles.kept(table(dict(octave=1), {})).tolist() == [False, True]
 
 
+def test_one_double_that_stays_is_enough():
+    between = dict(octave=1, peak=-3), dict(octave=0, peak=-5), dict(octave=2, peak=-4, x=52), dict(octave=3, peak=-9, x=55)
+    assert doubles.kept(table(*between)).tolist() == [False, True, False, True]
+
+
 def test_a_chain_of_three():
     chain = dict(octave=0, peak=-3), dict(octave=1, peak=-4, x=52), dict(octave=2, peak=-5, x=54.5)
     assert doubles.kept(table(*chain)).tolist() == [True, False, True]

@@ -29,6 +29,35 @@ def test_a_flat_map_stays_flat_to_its_edges(rows, cols, value):
         assert level.shape == (rows, cols) and level.flags.f_contiguous and np.allclose(level, value, rtol=1e-5)
 
 
+def passed(level, taps, row, col, down, right):
+    """One pixel of one pass, step by step: from the centre outward, each pair summed before it is weighed, the edge repeated."""
+    rows, cols = level.shape
+    at = lambda t: level[min(max(row + t * down, 0), rows - 1), min(max(col + t * right, 0), cols - 1)]
+    value = at(0) * taps[0]
+    for t in range(1, len(taps)):
+        value = value + (at(-t) + at(t)) * taps[t]
+    return value
+
+
+@pytest.mark.parametrize("octave", [0, 1])
+def test_each_pixel_step_by_step(octave):
+    """Across columns first, then along rows; every step in float32."""
+    raw = np.random.default_rng(5).normal(size=(8, 11)).astype("f4")
+    for level, target in zip(levels.build(raw, TABLES, octave), TABLES.sigmas):
+        taps = levels.kernel_to(target, levels.base_blur(TABLES.sigmas, octave))
+        across = np.array([[passed(raw, taps, row, col, 0, 1) for col in range(11)] for row in range(8)])
+        assert across.dtype == np.float32
+        assert np.array_equal(level, [[passed(across, taps, row, col, 1, 0) for col in range(11)] for row in range(8)])
+
+
+@pytest.mark.parametrize("octave", [0, 1])
+def test_the_edges_are_repeated(octave):
+    raw = np.random.default_rng(2).normal(size=(19, 23)).astype("f4")
+    wide = levels.build(np.pad(raw, 20, mode="edge"), TABLES, octave)
+    for level, other in zip(levels.build(raw, TABLES, octave), wide):
+        assert np.array_equal(level, other[20:-20, 20:-20])
+
+
 @given(st.integers(0, 39), st.integers(0, 36), st.sampled_from([0, 1]))
 def test_a_lost_pixel_reaches_its_kernels_square_and_no_further(row, col, octave):
     raw = np.random.default_rng(3).normal(size=(40, 37)).astype("f4")

@@ -153,4 +153,5 @@ def test_what_is_no_argument_is_no_refusal(m):
 def test_out_and_spots_must_not_overlap(m):
     room = np.zeros(52, "u1")
     spots = room[:40].view(u.SPOT)
-    pytest.raises(ValueError, u.join, spots, m.set, m.shape, out=room.view(u.SIZED))
+    with pytest.raises(ValueError, match="overlap"):
+        u.join(spots, m.set, m.shape, out=room.view(u.SIZED))

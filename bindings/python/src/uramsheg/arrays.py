@@ -17,7 +17,7 @@ def level(values):
         array = array.astype(np.float32).filled(np.nan)
     array = np.asarray(array)
     flags = array.flags
-    if array.dtype == np.float32 and array.dtype.isnative and flags.f_contiguous and flags.aligned:
+    if array.dtype == np.float32 and flags.f_contiguous and flags.aligned:  # the type's order of bytes is part of it
         return array
     with np.errstate(over="ignore", invalid="ignore"):
         return np.array(array, dtype=np.float32, order="F")
