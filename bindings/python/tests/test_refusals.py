@@ -14,7 +14,6 @@ T = cface.case("list")[0]
 NAN = float("nan")
 GIVEN = (1.0, 1.0, 10.0, 1.9027314, 4.1498866)
 M = np.zeros((9, 10), "f4")
-ANSWERS_8 = cface.detect(T, (NAN, *GIVEN[1:]), [M] * 4, 0, 0)[0] == refusals.THRESHOLDS
 
 
 def refused(kind, call, *given, **named):
@@ -27,7 +26,7 @@ def refused(kind, call, *given, **named):
 
 def test_each_number_of_the_header_has_a_class():
     named = {getattr(lib, name) for name in dir(lib) if name.startswith("URAMSHEG_REFUSED_")}
-    assert named | {refusals.THRESHOLDS} == set(refusals.REFUSALS) and set(range(1, 8)) <= named
+    assert named == set(refusals.REFUSALS) == set(range(1, 9))
     for kind in refusals.REFUSALS.values():
         assert issubclass(kind, u.Refused) and issubclass(kind, ValueError) and kind.why and getattr(u, kind.__name__) is kind
 
@@ -109,7 +108,6 @@ def test_7_no_size(m):
     assert refused(u.NoSizeRefused, u.correct, (-1, 4, 0, 0), m.set, 2, False).number == 7
 
 
-@pytest.mark.skipif(not ANSWERS_8, reason="the archive takes thresholds that are no numbers")
 @pytest.mark.parametrize("lost", [(0,), (1,), (2,), (3,), (4,), (0, 3), (0, 1, 2, 3, 4)])
 def test_8_thresholds(m, lost):
     given = [NAN if place in lost else value for place, value in enumerate(GIVEN)]

@@ -1,9 +1,6 @@
 """Why a call was refused: one class a number of uramsheg.h."""
 from ._native import lib
 
-# the number of a threshold that is not a number, where the header does not name it
-THRESHOLDS = getattr(lib, "URAMSHEG_REFUSED_THRESHOLDS", 8)
-
 
 class Refused(ValueError):
     """A refused call: `number` is that of uramsheg.h, `why` its meaning, `detail` the case, `index` the record it speaks of, else None."""
@@ -72,7 +69,7 @@ class NoSizeRefused(Refused):
 class ThresholdsRefused(Refused):
     """A threshold is not a number; `names` says which."""
 
-    number = THRESHOLDS
+    number = lib.URAMSHEG_REFUSED_THRESHOLDS
     why = "a threshold is not a number"
 
     def __init__(self, names=()):
