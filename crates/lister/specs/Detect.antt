@@ -1,7 +1,7 @@
 -- Detection of what the input holds. Definitions only.
 use Prim.Native.Nat.{ℕ}
 use mathlib.Core.List.{List}
-use Rattle.alp.specs.Level.{Maps, mapsOf}
+use Rattle.samples.specs.Level.{Maps, mapsOf}
 use Rattle.alp.specs.Detect.{Outcome, detectOf}
 use Rattle.input.specs.Input.{setFrom, thresholdsFrom, rowsFrom, colsFrom, octaveFrom, levelFrom}
 
