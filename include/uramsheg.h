@@ -42,14 +42,14 @@ enum { URAMSHEG_SET_BYTES = 528, URAMSHEG_SPOT_BYTES = 40, URAMSHEG_SIZED_BYTES 
  * and the numbers say nothing about it. */
 enum {
     URAMSHEG_DONE = 0,
-    URAMSHEG_REFUSED_SIZE = 1,    /* rows or cols above 4096: cut the map into tiles */
-    URAMSHEG_REFUSED_LEVEL = 2,   /* a level is not rows * cols long */
-    URAMSHEG_REFUSED_OCTAVE = 3,  /* octave above 5 */
-    URAMSHEG_REFUSED_SET = 4,     /* the set record is not 528 bytes long or not good */
-    URAMSHEG_REFUSED_RECORDS = 5, /* the list is no whole number of records (*value is how many are whole), or holds a bad one (*value is its index) */
-    URAMSHEG_REFUSED_ROOM = 6,    /* the output is shorter than needed */
-    URAMSHEG_REFUSED_NO_SIZE = 7, /* the spot has no size */
-    URAMSHEG_REFUSED_THRESHOLDS = 8 /* one of the five thresholds is a NaN */
+    URAMSHEG_REFUSED_SIZE = 1,      /* rows or cols above 4096: cut the map into tiles */
+    URAMSHEG_REFUSED_LEVEL = 2,     /* a level is not rows * cols long */
+    URAMSHEG_REFUSED_OCTAVE = 3,    /* octave above 5 */
+    URAMSHEG_REFUSED_SET = 4,       /* the set record is not 528 bytes long or not good */
+    URAMSHEG_REFUSED_RECORDS = 5,   /* the list is no whole number of records (*value is how many are whole), or holds a bad one (*value is its index) */
+    URAMSHEG_REFUSED_ROOM = 6,      /* the output is shorter than needed */
+    URAMSHEG_REFUSED_NO_SIZE = 7,   /* the spot has no size */
+    URAMSHEG_REFUSED_THRESHOLDS = 8 /* a threshold is not a number: one of the five is a NaN, as a blank in a sheet reads */
 };
 
 /* Lists the spots of four levels in `out`, by rising order key, at one key the minimum before the maximum.
