@@ -1,12 +1,17 @@
-"""The map of known plumes: its sources are listed, or stand where the judged area says that they could not be."""
+"""The map of known plumes: its sources are listed, or stand where the judged area says that they could not be; its list and its picture."""
+import json
 import runpy
+import subprocess
 
 import cface
 import numpy as np
+import pytest
+from matplotlib.image import imread
 
 import uramsheg as u
 
-EXAMPLE = runpy.run_path(str(cface.ROOT / "bindings" / "python" / "examples" / "plumes.py"))
+FOLDER = cface.ROOT / "bindings" / "python" / "examples"
+EXAMPLE = runpy.run_path(str(FOLDER / "plumes.py"))
 
 
 def test_each_source_is_listed_or_was_not_judged():
@@ -20,3 +25,24 @@ def test_each_source_is_listed_or_was_not_judged():
         if judged:
             assert abs(near["size"][0] / width - 1) < 0.12 and abs(near["height"][0] / height - 1) < 0.2
     assert {width for x, y, width, *_ in EXAMPLE["PLUMES"] if not (np.hypot(found.spots["x"] - x, found.spots["y"] - y) < width).any()} == {14.0}
+
+
+def listed(path):
+    """The rows of a list in GeoJSON, with the place in degrees."""
+    return [{**feature["properties"], "place": feature["geometry"]["coordinates"]} for feature in json.loads(path.read_text())["features"]]
+
+
+def test_the_recipe_of_the_picture_gives_the_list_that_is_stored(tmp_path):
+    said = subprocess.run([FOLDER / "show", tmp_path], capture_output=True, text=True)
+    assert (said.returncode, said.stderr) == (0, "") and said.stdout.startswith("plumes.tif: 7 spots")
+    assert sorted(path.name for path in tmp_path.iterdir()) == ["plumes.tif", "spots.geojson", "spots.png"]
+    stored, made = listed(FOLDER / "spots.geojson"), listed(tmp_path / "spots.geojson")
+    assert len(stored) == len(made) == 7
+    for old, new in zip(stored, made):
+        assert list(old) == list(new)
+        assert all(new[name] == (value if isinstance(value, (str, bool, int)) else pytest.approx(value, rel=1e-4)) for name, value in old.items())
+
+
+def test_the_stored_picture_is_small():
+    path = cface.ROOT / "docs" / "spots.png"
+    assert path.stat().st_size <= 200_000 and imread(path).shape[:2] == (516, 900)
