@@ -34,7 +34,7 @@ def test_one_gaussian_of_any_height(size, right, down, height, dark, octave):
     assert abs(spot["size"] / size - 1) < 0.05 and abs(abs(spot["height"]) / height - 1) < 0.1
 
 
-@pytest.mark.parametrize("noise, low_size, place, bias, spread", [(0.0, 1.95, 0.02, 0.01, 0.02), (2.0, 1.95, 0.1, 0.01, 0.03)])
+@pytest.mark.parametrize("noise, low_size, place, bias, spread", [(0.0, 1.95, 0.008, 0.002, 0.006), (2.0, 1.95, 0.016, 0.002, 0.008)])
 def test_a_field_of_known_spots(noise, low_size, place, bias, spread):
     """64 spots of sizes to 8 pixels and heights 50 to 400: all found, nothing else at their sizes; places in pixels, sizes as a share."""
     shape, known = blob.field(7, 8, low_size, 8.0)

@@ -1,0 +1,69 @@
+"""What docs/GUIDE.md says that no other test shows, and that the tests and theorems it names are there."""
+import re
+
+import blob
+import cface
+import numpy as np
+import pytest
+
+import uramsheg as u
+from uramsheg import levels
+
+GUIDE = (cface.ROOT / "docs" / "GUIDE.md").read_text()
+NOISES = [np.random.default_rng(seed).normal(size=(707, 707)) for seed in (100, 101)]
+
+
+def test_the_tests_and_theorems_it_names_are_there():
+    folder = cface.ROOT / "bindings" / "python" / "tests"
+    tests = set(re.findall(r"^def (test_\w+)", "\n".join(path.read_text() for path in folder.glob("test_*.py")), re.M))
+    named = set(re.findall(r"`(test_\w+)`", GUIDE))
+    assert named <= tests and len(named) > 10
+    assert all((folder / name).is_file() for name in re.findall(r"`(test_\w+\.py)`", GUIDE))
+    theorems = set(re.findall(r"`([a-z]+(?:-[a-z]+)+)`", GUIDE))
+    promises = (cface.ROOT / "docs" / "PROMISES.md").read_text()
+    assert theorems and all(f"`{name}`" in promises for name in theorems)
+
+
+@pytest.mark.parametrize("times, sizes", [(1, (2.4, 2.5)), (2, (2.5, 5.0)), (3.5, (2.5, 8.75)), (4, None), (5, None)])
+def test_long_spots(times, sizes):
+    rows, cols = np.mgrid[:160, :160]
+    raw = 100 * np.exp(-((cols - 80.2) ** 2) / 2 / (2.5 * times) ** 2 - (rows - 80.3) ** 2 / 2 / 2.5**2)
+    assert len(u.find(raw, peak=3, thresholds=u.Thresholds(0, ratio=100)).spots) == 1
+    spots = u.find(raw, peak=3).spots
+    assert len(spots) == (sizes is not None) and all(sizes[0] < spot["size"] < sizes[1] for spot in spots)
+
+
+@pytest.mark.parametrize("apart, sigmas", [(2.5, [4.4]), (3, [2.9, 2.9, 5.2]), (3.5, [2.8, 2.8]), (6, [3, 3])])
+def test_two_spots_near_each_other(apart, sigmas):
+    spots = u.find(blob.spots((120, 120), (50.2, 60.3, 3, 100), (50.2 + 3 * apart, 60.3, 3, 100)), peak=10).spots
+    assert sorted(spots["size"]) == pytest.approx(sigmas, abs=0.1)
+
+
+@pytest.mark.parametrize("size, listed", [(0.5, 0), (1.0, 0), (1.4, 0), (1.8, 0), (1.85, 1), (2.0, 1)])
+def test_spots_that_are_too_small(size, listed):
+    assert len(u.find(blob.spots((64, 64), (30.2, 31.3, size, 100)), peak=5).spots) == listed
+
+
+def test_an_even_slope_does_not_matter():
+    rows, cols = np.mgrid[:90, :100]
+    raw = blob.spots((90, 100), (40.3, 33.4, 2.6, 100))
+    (flat,), (steep,) = (u.find(raw + slope * (cols - 2 * rows), peak=10).spots for slope in (0, 10))
+    for name in ("x", "y", "size", "height"):
+        assert steep[name] == pytest.approx(flat[name], rel=1e-4)
+
+
+def test_white_noise():
+    spots = np.concatenate([u.find(noise, snr=3).spots for noise in NOISES])
+    assert [int((spots["snr"] >= least).sum()) for least in (3, 4, 5)] == [77, 2, 0]
+
+
+@pytest.mark.parametrize("blur, least", [(0, 0), (0.7, 100), (1, 1000), (2, 1000), (4, 1000)])
+def test_correlated_noise(blur, least):
+    listed = 0
+    for noise in NOISES:
+        if blur:
+            taps = levels.half_kernel(blur).astype(float)
+            noise = levels.blur_rows(levels.blur_rows(noise.T, taps).T, taps)
+        listed += len(u.find(noise).spots)
+        assert len(u.find(noise, peak=3 * noise.std()).spots) == 0
+    assert listed >= least and (blur or not listed)
