@@ -9,6 +9,7 @@ import blob
 import numpy as np
 import pytest
 import rasterio
+import xarray
 from rasterio.transform import Affine
 
 import uramsheg as u
@@ -59,11 +60,37 @@ def test_geojson_says_how_it_was_found(here, capsys):
     assert about["map"] == "map.tif" and about["set"] == "standard" and about["version"] == u.__version__ and [one["octave"] for one in about["judged"]] == [0, 1]
 
 
+def test_small_holes_are_filled_on_request(here, capsys, monkeypatch):
+    holes = RAW.copy()
+    holes[42, 30], holes[44:48, 80:84] = np.nan, np.nan
+    np.save("holes.npy", holes)
+    assert ran(capsys, "detect", "holes.npy", "--peak", "10", "-o", "a.csv")[1].startswith("holes.npy: 0 spots; ground ")
+    out = ran(capsys, "detect", "holes.npy", "--peak", "10", "--fill", "4", "-o", "b.csv")[1]
+    assert out.startswith("holes.npy: 1 spot; ground ") and out.splitlines()[0].endswith("; 1 lost pixels filled")
+    assert Path("b.csv").read_text().splitlines()[1].endswith(",True")
+    drawn = []
+    monkeypatch.setattr(command, "draw", lambda to, given, found: drawn.append(given.values))
+    assert ran(capsys, "detect", "holes.npy", "--peak", "10", "--fill", "16", "--picture", "a.png")[1].startswith("holes.npy: 2 spots; ground ")
+    assert np.array_equal(drawn[0], holes, equal_nan=True)
+
+
 def test_options_reach_the_detector(here, capsys):
     assert ran(capsys, "detect", "map.npy", "--peak", "10", "--octaves", "1")[1].startswith("map.npy: 0 spots")
     assert ran(capsys, "detect", "map.npy", "--peak", "10", "--window", "1.9", "2.8")[1].startswith("map.npy: 1 spot;")
     assert ran(capsys, "detect", "map.npy", "--peak", "10", "--ratio", "1")[1].startswith("map.npy: 0 spots")
     assert ran(capsys, "detect", "map.npy", "--peak", "10", "--curvature", "1e9")[1].startswith("map.npy: 0 spots")
+
+
+def test_a_zarr_folder(here, capsys):
+    xarray.Dataset({"ch4": (("y", "x"), RAW)}).to_zarr("scene.zarr")
+    xarray.Dataset({"ch4": (("lat", "lon"), RAW)}, coords={"lat": 60 - 1e-4 * np.arange(90), "lon": 8 + 1e-4 * np.arange(100)}).to_zarr("degrees.zarr")
+    assert ran(capsys, "detect", "scene.zarr/", "--peak", "10", "-o", "{name}.csv")[1].startswith("scene.zarr/: 2 spots") and Path("scene.csv").is_file()
+    assert ran(capsys, "detect", "degrees.zarr", "--peak", "10", "-o", "{name}.geojson", "-q") == (0, "", "")
+    document = json.loads(Path("degrees.geojson").read_text())
+    assert document["uramsheg"]["map"] == "degrees.zarr" and document["features"][0]["geometry"]["coordinates"] == pytest.approx([8.00302, 59.99599], abs=1e-6)
+    os.mkdir("none.zarr")
+    code, out, err = ran(capsys, "detect", "none.zarr")
+    assert (code, out, err.count("\n")) == (3, "", 1)
 
 
 @pytest.mark.parametrize("jobs", ["1", "2"])
@@ -104,7 +131,8 @@ def test_failures(here, capsys, words, code, said):
     assert sorted(os.listdir()) == before
 
 
-@pytest.mark.parametrize("words", [(), ("detect",), ("detect", "map.npy", "--peak", "1", "--snr", "2"), ("detect", "map.npy", "--ground", "mean"), ("set",)])
+@pytest.mark.parametrize("words", [(), ("detect",), ("detect", "map.npy", "--peak", "1", "--snr", "2"), ("detect", "map.npy", "--ground", "mean"), ("set",),
+                                   ("detect", "map.npy", "--fill", "-1")])
 def test_wrong_use(here, capsys, words):
     with pytest.raises(SystemExit) as ended:
         command.main(list(words))

@@ -3,6 +3,7 @@ import blob
 import numpy as np
 import pytest
 import rasterio
+import rioxarray
 import xarray
 from rasterio.crs import CRS
 from rasterio.transform import Affine
@@ -102,6 +103,67 @@ def test_netcdf_rows_upward_packed_and_with_a_time(tmp_path):
     up["where"] = dataset()["where"]
     up.to_netcdf(tmp_path / "up.nc", encoding={"ch4": {"dtype": "int16", "scale_factor": 0.01, "add_offset": 1900.0, "_FillValue": -32768}})
     check(maps.read(tmp_path / "up.nc"))
+
+
+@pytest.mark.parametrize("consolidated", [True, False])
+def test_zarr(tmp_path, consolidated):
+    """With the metadata gathered in one file, and without."""
+    encoding = {"ch4": {"chunks": (50, 70), "dtype": "int16", "scale_factor": 0.01, "add_offset": 1900.0, "_FillValue": -32768}}
+    dataset().to_zarr(tmp_path / "scene.zarr", encoding=encoding, consolidated=consolidated)
+    given = maps.read(tmp_path / "scene.zarr")
+    check(given)
+    assert (given.unit, given.name, given.grid.crs.to_epsg()) == ("ppb", "scene", 32632)
+    assert given.grid.transform == pytest.approx(tuple(PLACE)[:6])
+
+
+def test_zarr_of_several_variables_and_what_is_none(tmp_path):
+    dataset(co2=dataset()["ch4"]).to_zarr(tmp_path / "two.zarr")
+    check(maps.read(tmp_path / "two.zarr", variable="co2"))
+    with pytest.raises(ValueError, match="ch4, co2"):
+        maps.read(tmp_path / "two.zarr")
+    (tmp_path / "none.zarr").mkdir()
+    pytest.raises((ValueError, OSError), maps.read, tmp_path / "none.zarr")
+
+
+@pytest.mark.parametrize("how", [{}, {"masked": True}, {"mask_and_scale": True}])
+def test_rioxarray(tmp_path, how):
+    """A band of whole numbers with a scale, as rioxarray opens it: raw, masked, or masked and scaled."""
+    path = tif(tmp_path / "scene.tif", np.rint((values() - 1900) * 100), dtype="int16", scales=(0.01,), offsets=(1900,))
+    with rioxarray.open_rasterio(path, **how) as array:
+        given = maps.of_xarray(array)
+        check(given)
+        assert given.grid.crs.to_epsg() == 32632 and np.nanmax(abs(given.values - values())) <= 0.006
+        assert u.find(array, peak=10).spots.tobytes() == u.find(given.values, peak=10, grid=given.grid).spots.tobytes() != b""
+
+
+def test_rioxarray_after_work_on_it(tmp_path):
+    """A part of the map, halved in value: names of the reference are lost on the way, the reference is not."""
+    with rioxarray.open_rasterio(tif(tmp_path / "scene.tif", values()), masked=True) as array:
+        part = array[0, 10:, 20:] / 2
+        assert not part.encoding and not part.attrs
+        (spot,) = u.find(part, peak=5).spots
+    assert (spot["map_x"], spot["map_y"]) == pytest.approx(GROUND, abs=0.05) and spot["size_m"] == pytest.approx(15, rel=0.01)
+    assert (spot["x"], spot["y"]) == pytest.approx((50.25, 30.4), abs=0.01)
+
+
+def test_a_turned_map_of_rioxarray(tmp_path):
+    turned = PLACE * Affine.rotation(30)
+    with rioxarray.open_rasterio(tif(tmp_path / "turned.tif", values(), transform=turned), masked=True) as array:
+        (spot,) = u.find(array, peak=10).spots
+    assert (spot["map_x"], spot["map_y"]) == pytest.approx(turned * (70.75, 40.9), abs=0.05) and spot["size_m"] == pytest.approx(15, rel=0.01)
+
+
+def test_a_reference_written_by_rioxarray(tmp_path):
+    """Through NetCDF and Zarr, with the reference that rioxarray gave."""
+    array = dataset()["ch4"]
+    del array.attrs["grid_mapping"]
+    placed = array.rio.write_crs("EPSG:32632").to_dataset(name="ch4")
+    placed.to_netcdf(tmp_path / "scene.nc")
+    placed.to_zarr(tmp_path / "scene.zarr")
+    for name in ("scene.nc", "scene.zarr"):
+        given = maps.read(tmp_path / name)
+        check(given)
+        assert given.grid.crs.to_epsg() == 32632
 
 
 def test_xarray_without_a_reference():

@@ -7,12 +7,14 @@ from typing import NamedTuple
 
 import numpy as np
 
-from . import __version__, maps, output
-from .detector import Thresholds
+from . import __version__, maps, output, progress
+from .detector import Thresholds, octave_count
+from .filling import fill
 from .finding import find
 from .options import parser
 from .refusals import Refused
 from .tables import TablesFault, load, standard
+
 
 class Failed(Exception):
     """What ends the command: its exit code and a line for people."""
@@ -58,23 +60,33 @@ def one_map(path, options):
     """All the work on one map."""
     try:
         given = read_map(path, options)
-        rest = Thresholds(0.0, options.curvature, options.ratio, *options.window)
-        try:
-            found = find(given.values, set_named(options.set), peak=options.peak, snr=options.snr, thresholds=rest, ground=options.ground,
-                         kind=options.kind, octaves=options.octaves, grid=given.grid)
-        except Refused as error:
-            raise Failed(10 + error.number, f"{path}: {error}") from None
-        except ValueError as error:
-            raise Failed(2, f"{path}: {error}") from None
-        write_all(path, given, found, options)
-        return Answer(lines_of(path, given, found, options))
+        values, filled = fill(given.values, options.fill) if options.fill else (given.values, np.zeros(given.values.shape, bool))
+        found = searched(path, values, filled, given.grid, options)
+        numbers = about(path, given, found, int(filled.sum()), options)
+        write_all(given, found, numbers, options)
+        return Answer(lines_of(path, given, found, numbers, options))
     except Failed as failure:
         return Answer([], failure.code, failure.words)
 
 
-def write_all(path, given, found, options):
+def searched(path, values, filled, grid, options):
+    """A map's spots; its octaves are shown as they are done where it is the only map."""
+    rest = Thresholds(0.0, options.curvature, options.ratio, *options.window)
+    octaves = [octave for octave in range(octave_count(*values.shape)) if options.octaves is None or octave in options.octaves]
+    bar = progress.bar(len(octaves), "octave", options.quiet or len(options.maps) > 1)
+    try:
+        return find(values, set_named(options.set), peak=options.peak, snr=options.snr, thresholds=rest, ground=options.ground, kind=options.kind,
+                    octaves=options.octaves, grid=grid, lost=filled, watch=bar.step)
+    except Refused as error:
+        raise Failed(10 + error.number, f"{path}: {error}") from None
+    except ValueError as error:
+        raise Failed(2, f"{path}: {error}") from None
+    finally:
+        bar.close()
+
+
+def write_all(given, found, numbers, options):
     """The files that were asked for."""
-    numbers = about(path, given, found, options)
     for name, write in ((options.output, lambda to: output.save(to, found, numbers)), (options.picture, lambda to: draw(to, given, found))):
         if name is None:
             continue
@@ -96,11 +108,11 @@ def draw(path, given, found):
     output.whole(path, lambda aside: picture.page(given, found).savefig(aside, dpi=100))
 
 
-def about(path, given, found, options):
+def about(path, given, found, filled, options):
     """The numbers of the run."""
     return {
-        "version": __version__, "map": os.path.basename(path), "set": os.path.basename(options.set), "unit": given.unit, "ground": found.ground,
-        "noise": found.noise, "judged": [{"octave": one.octave, "sigma_px": [one.low, one.high], "share": share(one)} for one in found.judged],
+        "version": __version__, "map": Path(path).name, "set": Path(options.set).name, "unit": given.unit, "ground": found.ground, "noise": found.noise,
+        "filled": filled, "judged": [{"octave": one.octave, "sigma_px": [one.low, one.high], "share": share(one)} for one in found.judged],
     }
 
 
@@ -109,19 +121,20 @@ def share(judged):
     return round(float(judged.mask.mean()), 4)
 
 
-def lines_of(path, given, found, options):
+def lines_of(path, given, found, numbers, options):
     """The list for people: the ten strongest, and what was judged."""
     if options.quiet:
         return []
     count = len(found.spots)
     lines = [f"{path}: {count} spot{'' if count == 1 else 's'}; ground {found.ground:.6g}, noise {found.noise:.3g} {given.unit}".rstrip()]
+    lines[0] += f"; {numbers['filled']} lost pixels filled" if options.fill else ""
     table = output.columns(found)
     if count:
         lines.append(f"{'rank':>4} {'map x':>14} {'map y':>14} {'height':>10} {'snr':>8} {'size':>10}  kind")
     for place in range(min(count, 10)):
         row = {name: values[place] for name, values in table.items()}
         size = "none" if row["size_px"] is None else f"{row['size_px']:.2f} px" if row["size_m"] is None else f"{row['size_m']:.1f} m"
-        snr = "" if row["snr"] is None else f"{row['snr']:.1f}"
+        snr = "" if row["snr"] is None else f"{row['snr']:.1f}" if row["snr"] < 1e5 else f"{row['snr']:.3g}"
         lines.append(f"{row['rank']:4d} {row['map_x']:14.4f} {row['map_y']:14.4f} {row['height']:10.4g} {snr:>8} {size:>10}  {row['kind']}")
     if count > 10:
         lines.append(f"... and {count - 10} more")
@@ -137,12 +150,15 @@ def detect(options):
         if name is not None and several and "{name}" not in name:
             raise Failed(2, f"{name}: with several maps an output's name needs {{name}} in it, as in spots/{{name}}.geojson")
     failures = []
+    bar = progress.bar(len(options.maps), "map", options.quiet or not several)
     for answer in worked(options):
+        bar.step()
         for line in answer.lines:
-            print(line)
+            bar.say(line, sys.stdout)
         if answer.code:
             failures.append(answer)
-            print(f"uramsheg: {answer.words}", file=sys.stderr)
+            bar.say(f"uramsheg: {answer.words}", sys.stderr)
+    bar.close()
     if failures:
         if several:
             raise Failed(5, f"{len(failures)} of {len(options.maps)} maps failed")

@@ -51,14 +51,14 @@ class Found(NamedTuple):
         return xarray.Dataset({name: ("spot", self.spots[name]) for name in FOUND.names})
 
 
-def find(values, tables=None, *, peak=None, snr=None, thresholds=None, ground="median", kind="bright", octaves=None, grid=None, lost=None):
+def find(values, tables=None, *, peak=None, snr=None, thresholds=None, ground="median", kind="bright", octaves=None, grid=None, lost=None, watch=None):
     """The spots of a raw map of rows by cols, NaN where a pixel is lost: an array, or a DataArray of xarray's, which brings its grid with it.
 
     A spot is listed where its peak, which is about half its height, is beyond `peak` in the map's unit and its signal to noise is at least `snr`; where
     neither is given, `snr` is 8. `thresholds` gives the other four (its own peak does not count). `ground` is taken off first, the median or a number, in
     float64; then the map is brought to a unit near its noise by a power of two, which alters no digit. `kind` is bright (more gas than around), dark or
     both. `octaves` names those to be looked at, all where it is None. `grid` says where pixels lie. `lost` marks pixels that count as lost or filled in
-    the table's `near_lost`, beside those that are NaN.
+    the table's `near_lost`, beside those that are NaN. `watch` is called as each octave is done.
     """
     if kind not in ("bright", "dark", "both"):
         raise ValueError(f"kind is {kind!r}, not bright, dark or both")
@@ -79,6 +79,8 @@ def find(values, tables=None, *, peak=None, snr=None, thresholds=None, ground="m
         beyond = peak / unit if peak is not None else least * response_noise(noise / unit, high) * (1 - 1e-6)
         parts.append(rows_of(*scene.listed(four, tables, rest._replace(peak=beyond), octave), octave, unit))
         judged.append(Judged(octave, low, high, scene.judged(four)))
+        if watch is not None:
+            watch()
     spots = np.concatenate(parts)
     spots["snr"] = signal_to_noise(spots, noise)
     spots = spots[doubles.kept(spots)]

@@ -15,15 +15,23 @@ def ground_of(text):
     return text if text == "median" else float(text)
 
 
+def whole(text):
+    """A whole number from 0 on."""
+    number = int(text)
+    if number < 0:
+        raise ValueError(text)
+    return number
+
+
 def reading(parser):
     """The options that say how a map is read."""
     parser.add_argument("--band", type=int, default=1, help="band of a GeoTIFF (1)")
-    parser.add_argument("--variable", help="variable of a NetCDF file")
+    parser.add_argument("--variable", help="variable of a NetCDF file or a Zarr folder")
 
 
 def detect_options(parser):
     """The options of detect."""
-    parser.add_argument("maps", nargs="+", metavar="MAP", help="GeoTIFF, NetCDF or .npy")
+    parser.add_argument("maps", nargs="+", metavar="MAP", help="GeoTIFF, NetCDF, Zarr or .npy")
     parser.add_argument("--set", default="standard", help="the name standard, or a file with a set record or a set in TOML")
     parser.add_argument("-o", "--output", help=".geojson, .csv or .gpkg; {name} stands for the map's name")
     parser.add_argument("--picture", help=".png, .svg or .pdf; {name} as above")
@@ -32,12 +40,13 @@ def detect_options(parser):
     least.add_argument("--snr", type=float, help="least signal to noise (8, where no peak is given)")
     parser.add_argument("--kind", choices=("bright", "dark", "both"), default="bright", help="bright is more gas than around")
     parser.add_argument("--ground", type=ground_of, default="median", help="taken off first: median or a number")
+    parser.add_argument("--fill", type=whole, default=0, metavar="N", help="fill holes of at most N lost pixels, each pixel by the mean of its neighbours (0)")
     parser.add_argument("--octaves", type=int, nargs="+", help="octaves to look at (all)")
     parser.add_argument("--curvature", type=float, default=Thresholds(0).sigma, help="least curvature over scale")
     parser.add_argument("--ratio", type=float, default=Thresholds(0).ratio, help="largest ratio of curvatures in the plane")
     parser.add_argument("--window", type=float, nargs=2, default=Thresholds(0)[3:], metavar=("LOW", "HIGH"), help="sigmas that an octave lists")
     parser.add_argument("--jobs", type=int, default=1, help="how many maps to work on at a time")
-    parser.add_argument("-q", "--quiet", action="store_true", help="no list on standard output")
+    parser.add_argument("-q", "--quiet", action="store_true", help="no list on standard output, no progress")
     reading(parser)
 
 
