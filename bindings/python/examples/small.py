@@ -1,4 +1,4 @@
-"""Makes a picture small enough for a page: 900 pixels wide, 64 colours.
+"""Makes a picture small enough for a page: 1,000 pixels wide, 256 colours.
 
 use: small.py PICTURE.png SMALL.png
 """
@@ -8,4 +8,5 @@ from PIL import Image
 
 picture = Image.open(sys.argv[1]).convert("RGB")
 wide, high = picture.size
-picture.resize((900, round(high * 900 / wide)), Image.LANCZOS).quantize(64, dither=Image.Dither.NONE).save(sys.argv[2], optimize=True)
+narrow = picture.resize((1000, round(high * 1000 / wide)), Image.LANCZOS)
+narrow.quantize(256, method=Image.Quantize.MAXCOVERAGE, dither=Image.Dither.NONE).save(sys.argv[2], optimize=True)

@@ -45,4 +45,4 @@ def test_the_recipe_of_the_picture_gives_the_list_that_is_stored(tmp_path):
 
 def test_the_stored_picture_is_small():
     path = cface.ROOT / "docs" / "spots.png"
-    assert path.stat().st_size <= 200_000 and imread(path).shape[:2] == (516, 900)
+    assert path.stat().st_size <= 200_000 and imread(path).shape[:2] == (573, 1000)

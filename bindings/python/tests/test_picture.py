@@ -76,3 +76,10 @@ def test_only_the_strongest_are_numbered():
     found, figure, _ = drawn(raw, u.Grid(), peak=5)
     main, near, _ = axes_of(figure)
     assert len(found.spots) >= 16 and len(near) == len(main.texts) == picture.STRONGEST
+
+
+def test_names_and_units_are_no_formulas():
+    found = u.find(RAW, peak=10)
+    figure = picture.page(maps.Map(RAW, u.Grid(), r"$\frac$", r"a $\none$ b"), found)
+    figure.savefig(io.BytesIO(), format="png", dpi=50)
+    assert axes_of(figure)[0].get_title(loc="left").startswith(r"a $\none$ b: ")

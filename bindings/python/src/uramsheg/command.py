@@ -10,7 +10,7 @@ import numpy as np
 from . import __version__, maps, output, progress
 from .detector import Thresholds, octave_count
 from .filling import fill
-from .finding import find
+from .finding import SNR, find
 from .options import parser
 from .refusals import Refused
 from .tables import TablesFault, load, standard
@@ -87,7 +87,11 @@ def searched(path, values, filled, grid, options):
 
 def write_all(given, found, numbers, options):
     """The files that were asked for."""
-    for name, write in ((options.output, lambda to: output.save(to, found, numbers)), (options.picture, lambda to: draw(to, given, found))):
+    writers = (
+        (options.output, lambda to: output.save(to, found, numbers)), (options.picture, lambda to: draw(to, given, found)),
+        (options.report, lambda to: tell(to, given, found, numbers)),
+    )
+    for name, write in writers:
         if name is None:
             continue
         to = name.replace("{name}", given.name)
@@ -108,11 +112,21 @@ def draw(path, given, found):
     output.whole(path, lambda aside: picture.page(given, found).savefig(aside, dpi=100))
 
 
+def tell(path, given, found, numbers):
+    """The report."""
+    from . import report
+
+    report.save(path, given, found, numbers)
+
+
 def about(path, given, found, filled, options):
     """The numbers of the run."""
+    least = SNR if options.peak is None and options.snr is None else options.snr
     return {
         "version": __version__, "map": Path(path).name, "set": Path(options.set).name, "unit": given.unit, "ground": found.ground, "noise": found.noise,
-        "filled": filled, "judged": [{"octave": one.octave, "sigma_px": [one.low, one.high], "share": share(one)} for one in found.judged],
+        "kind": options.kind, "filled": filled,
+        "thresholds": {"peak": options.peak, "snr": least, "curvature": options.curvature, "ratio": options.ratio, "window": list(options.window)},
+        "judged": [{"octave": one.octave, "sigma_px": [one.low, one.high], "share": share(one)} for one in found.judged],
     }
 
 
@@ -146,7 +160,7 @@ def detect(options):
     """Lists the spots of maps, in the order in which they were named."""
     set_named(options.set)
     several = len(options.maps) > 1
-    for name in (options.output, options.picture):
+    for name in (options.output, options.picture, options.report):
         if name is not None and several and "{name}" not in name:
             raise Failed(2, f"{name}: with several maps an output's name needs {{name}} in it, as in spots/{{name}}.geojson")
     failures = []

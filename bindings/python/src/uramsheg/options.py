@@ -35,6 +35,7 @@ def detect_options(parser):
     parser.add_argument("--set", default="standard", help="the name standard, or a file with a set record or a set in TOML")
     parser.add_argument("-o", "--output", help=".geojson, .csv or .gpkg; {name} stands for the map's name")
     parser.add_argument("--picture", help=".png, .svg or .pdf; {name} as above")
+    parser.add_argument("--report", help=".html: one page with the picture, the table and the numbers of the run; {name} as above")
     least = parser.add_mutually_exclusive_group()
     least.add_argument("--peak", type=float, help="least peak, in the map's unit; a spot's height is about twice its peak")
     least.add_argument("--snr", type=float, help="least signal to noise (8, where no peak is given)")

@@ -21,9 +21,10 @@ def page(given, found):
     image = field(main, given, limits)
     circles(main, found, numbered=STRONGEST)
     count = len(found.spots)
-    main.set_title(f"{given.name}: {count} spot{'' if count == 1 else 's'} (circles of {SIZES:g} sizes; hatched: lost)", fontsize=11, loc="left")
+    title = f"{given.name}: {count} spot{'' if count == 1 else 's'} (circles of {SIZES:g} sizes; hatched: lost)"
+    main.set_title(title, fontsize=11, loc="left", parse_math=False)
     bar = left.add_axes([0.3, 0.055, 0.45, 0.018])
-    left.colorbar(image, cax=bar, orientation="horizontal", extend="both").set_label(given.unit or "value", fontsize=9)
+    left.colorbar(image, cax=bar, orientation="horizontal", extend="both").set_label(given.unit or "value", fontsize=9, parse_math=False)
     bar.tick_params(labelsize=8)
     for place in range(min(STRONGEST, count)):
         close(right.add_axes([0.02 + 0.325 * (place % 3), 0.66 - 0.32 * (place // 3), 0.29, 0.25]), given, found, place, limits)
