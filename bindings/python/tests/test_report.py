@@ -30,6 +30,7 @@ class Page(HTMLParser):
         self.close()
 
     def handle_starttag(self, tag, attributes):
+        """A tag begins."""
         named = dict(attributes)
         self.sources += [named[name] for name in ("src", "href", "srcset", "data", "action") if name in named]
         if tag == "table":
@@ -44,9 +45,11 @@ class Page(HTMLParser):
             self.open.append(tag)
 
     def handle_endtag(self, tag):
+        """The innermost tag ends."""
         assert self.open.pop() == tag
 
     def handle_data(self, data):
+        """Text of a cell, or of another tag."""
         if {"td", "th"} & set(self.open):
             self.tables[-1][-1][-1] += data
         elif self.open:
@@ -90,7 +93,8 @@ def shown(page, added="", word=""):
     """What a browser makes of a page, with a script added at its end and a word after the #."""
     copy = Path("shown.html")
     copy.write_text(page.read_text().replace("</body>", f"<script>{added}</script></body>"))
-    said = subprocess.run([*BROWSER, f"--user-data-dir={Path('profile').absolute()}", f"{copy.absolute().as_uri()}#{word}"], capture_output=True, text=True, timeout=120)
+    words = [*BROWSER, f"--user-data-dir={Path('profile').absolute()}", f"{copy.absolute().as_uri()}#{word}"]
+    said = subprocess.run(words, capture_output=True, text=True, timeout=120)
     assert said.returncode == 0
     return said.stdout
 

@@ -73,16 +73,14 @@ def searched(path, values, filled, grid, options):
     """A map's spots; its octaves are shown as they are done where it is the only map."""
     rest = Thresholds(0.0, options.curvature, options.ratio, *options.window)
     octaves = [octave for octave in range(octave_count(*values.shape)) if options.octaves is None or octave in options.octaves]
-    bar = progress.bar(len(octaves), "octave", options.quiet or len(options.maps) > 1)
     try:
-        return find(values, set_named(options.set), peak=options.peak, snr=options.snr, thresholds=rest, ground=options.ground, kind=options.kind,
-                    octaves=options.octaves, grid=grid, lost=filled, watch=bar.step)
+        with progress.bar(len(octaves), "octave", options.quiet or len(options.maps) > 1) as bar:
+            return find(values, set_named(options.set), peak=options.peak, snr=options.snr, thresholds=rest, ground=options.ground, kind=options.kind,
+                        octaves=options.octaves, grid=grid, lost=filled, watch=bar.step)
     except Refused as error:
         raise Failed(10 + error.number, f"{path}: {error}") from None
     except ValueError as error:
         raise Failed(2, f"{path}: {error}") from None
-    finally:
-        bar.close()
 
 
 def write_all(given, found, numbers, options):
@@ -164,15 +162,14 @@ def detect(options):
         if name is not None and several and "{name}" not in name:
             raise Failed(2, f"{name}: with several maps an output's name needs {{name}} in it, as in spots/{{name}}.geojson")
     failures = []
-    bar = progress.bar(len(options.maps), "map", options.quiet or not several)
-    for answer in worked(options):
-        bar.step()
-        for line in answer.lines:
-            bar.say(line, sys.stdout)
-        if answer.code:
-            failures.append(answer)
-            bar.say(f"uramsheg: {answer.words}", sys.stderr)
-    bar.close()
+    with progress.bar(len(options.maps), "map", options.quiet or not several) as bar:
+        for answer in worked(options):
+            bar.step()
+            for line in answer.lines:
+                bar.say(line, sys.stdout)
+            if answer.code:
+                failures.append(answer)
+                bar.say(f"uramsheg: {answer.words}", sys.stderr)
     if failures:
         if several:
             raise Failed(5, f"{len(failures)} of {len(options.maps)} maps failed")

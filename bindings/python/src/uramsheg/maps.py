@@ -67,7 +67,7 @@ def read_dataset(path, variable):
 
     engine = None
     if path.suffix.lower() == ".zarr":
-        import zarr
+        import zarr  # so that it is named where it is missing: xarray would not
 
         engine = zarr.__name__
     with warnings.catch_warnings():

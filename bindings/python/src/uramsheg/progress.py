@@ -3,10 +3,16 @@ import sys
 
 
 class Bar:
-    """Nothing is shown."""
+    """A bar that shows nothing."""
 
     def __init__(self, total, unit):
         self.total, self.unit, self.done = total, unit, 0
+
+    def __enter__(self):
+        return self
+
+    def __exit__(self, *_):
+        self.close()
 
     def step(self):
         """One more is done."""
@@ -24,6 +30,7 @@ class Lines(Bar):
     """A line a step."""
 
     def step(self):
+        """One more is done, and said."""
         super().step()
         print(f"uramsheg: {self.unit} {self.done} of {self.total}", file=sys.stderr, flush=True)
 
@@ -38,12 +45,16 @@ class Tqdm(Bar):
         self.bar = tqdm(total=total, desc="uramsheg", unit=unit, file=sys.stderr, leave=False)
 
     def step(self):
+        """One more is done, and drawn."""
+        super().step()
         self.bar.update()
 
     def say(self, line, file):
+        """A line above the bar."""
         self.bar.write(line, file=file)
 
     def close(self):
+        """The bar is wiped off."""
         self.bar.close()
 
 
