@@ -166,6 +166,22 @@ def test_sets(here, capsys):
     assert ran(capsys, "detect", "map.npy", "--set", "made.toml", "--peak", "10")[1].startswith("map.npy: 2 spots")
 
 
+@pytest.mark.parametrize("words, missing, code, said", [
+    (("map.tif",), "rasterio", 3, "map.tif: to read it the Python package rasterio is needed"),
+    (("map.nc",), "xarray", 3, "map.nc: to read it the Python package xarray is needed"),
+    (("map.zarr",), "zarr", 3, "map.zarr: to read it the Python package zarr is needed"),
+    (("map.npy", "-o", "spots.gpkg"), "fiona", 4, "spots.gpkg: to write it the Python package fiona is needed"),
+    (("map.npy", "--picture", "spots.png"), "matplotlib", 4, "spots.png: to write it the Python package matplotlib is needed"),
+    (("map.npy", "--report", "spots.html"), "matplotlib", 4, "spots.html: to write it the Python package matplotlib is needed"),
+])
+def test_a_package_that_is_missing_is_named(here, words, missing, code, said):
+    for name in ("map.tif", "map.nc", "map.zarr"):
+        (here / name).touch()
+    lines = f"import sys; sys.modules[{missing!r}] = None; from uramsheg.command import main; sys.exit(main({['detect', *words]!r}))"
+    run = subprocess.run([sys.executable, "-c", lines], capture_output=True, text=True)
+    assert (run.returncode, run.stdout, run.stderr) == (code, "", f"uramsheg: {said}\n")
+
+
 def test_info(here, capsys):
     code, out, _ = ran(capsys, "info", "map.npy")
     assert code == 0 and out.startswith("map.npy: 90 rows by 100 cols, 0 pixels lost\nvalues -") and "a pixel is of unknown size" in out

@@ -36,12 +36,17 @@ def set_named(name):
         raise Failed(10 + error.number, f"{name}: {error}") from None
 
 
+def package(error):
+    """The package that an import did not find."""
+    return (error.name or str(error)).split(".")[0]
+
+
 def read_map(path, options):
     """The map in a file."""
     try:
         return maps.read(path, band=options.band, variable=options.variable)
     except ImportError as error:
-        raise Failed(3, f"{path}: to read it the Python package {error.name} is needed") from None
+        raise Failed(3, f"{path}: to read it the Python package {package(error)} is needed") from None
     except OSError as error:
         raise Failed(3, f"{path}: {error.strerror or error}") from None
     except ValueError as error:
@@ -96,7 +101,7 @@ def write_all(given, found, numbers, options):
         try:
             write(to)
         except ImportError as error:
-            raise Failed(4, f"{to}: to write it the Python package {error.name} is needed") from None
+            raise Failed(4, f"{to}: to write it the Python package {package(error)} is needed") from None
         except OSError as error:
             raise Failed(4, f"{to}: {error.strerror or error}") from None
         except ValueError as error:
