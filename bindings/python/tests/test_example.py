@@ -2,6 +2,7 @@
 import json
 import runpy
 import subprocess
+import sys
 
 import cface
 import numpy as np
@@ -32,17 +33,26 @@ def listed(path):
     return [{**feature["properties"], "place": feature["geometry"]["coordinates"]} for feature in json.loads(path.read_text())["features"]]
 
 
-def test_the_recipe_of_the_picture_gives_the_list_that_is_stored(tmp_path):
-    said = subprocess.run([FOLDER / "show", tmp_path], capture_output=True, text=True)
+@pytest.fixture(scope="module")
+def made(tmp_path_factory):
+    """What the recipe of the picture makes."""
+    folder = tmp_path_factory.mktemp("made")
+    said = subprocess.run([FOLDER / "show", folder], capture_output=True, text=True)
     assert (said.returncode, said.stderr) == (0, "") and said.stdout.startswith("plumes.tif: 7 spots")
-    assert sorted(path.name for path in tmp_path.iterdir()) == ["plumes.tif", "spots.geojson", "spots.png"]
-    stored, made = listed(FOLDER / "spots.geojson"), listed(tmp_path / "spots.geojson")
+    assert sorted(path.name for path in folder.iterdir()) == ["plumes.tif", "spots.geojson", "spots.png"]
+    return folder
+
+
+def test_the_recipe_gives_the_list_that_is_stored(made):
+    stored, made = listed(FOLDER / "spots.geojson"), listed(made / "spots.geojson")
     assert len(stored) == len(made) == 7
     for old, new in zip(stored, made):
         assert list(old) == list(new)
         assert all(new[name] == (value if isinstance(value, (str, bool, int)) else pytest.approx(value, rel=1e-4)) for name, value in old.items())
 
 
-def test_the_stored_picture_is_small():
-    path = cface.ROOT / "docs" / "spots.png"
-    assert path.stat().st_size <= 200_000 and imread(path).shape[:2] == (573, 1000)
+def test_its_picture_made_small_is_like_the_stored_one(made, tmp_path):
+    small = tmp_path / "small.png"
+    subprocess.run([sys.executable, FOLDER / "small.py", made / "spots.png", small], check=True)
+    for path in (small, cface.ROOT / "docs" / "spots.png"):
+        assert path.stat().st_size <= 200_000 and imread(path).shape[:2] == (573, 1000)
