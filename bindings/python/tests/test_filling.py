@@ -40,6 +40,14 @@ def test_small_holes_alone_are_filled(lost, most, seed):
         assert min(around) - 1e-12 <= min(inside) and max(inside) <= max(around) + 1e-12
 
 
+@pytest.mark.parametrize("long", [1, 2, 5, 9])
+def test_long_holes(long):
+    for lost in (np.s_[3, 1 : 1 + long], np.s_[1 : 1 + long, 3]):
+        raw = np.zeros((12, 12))
+        raw[lost] = np.nan
+        assert u.fill(raw, long)[1].sum() == long and u.fill(raw, long - 1)[1].sum() == 0
+
+
 def test_masked_maps_and_infinities():
     raw = np.ma.MaskedArray(np.arange(25.0).reshape(5, 5), mask=np.zeros((5, 5), bool))
     raw[2, 2] = np.ma.masked

@@ -147,10 +147,10 @@ def test_rioxarray_after_work_on_it(tmp_path):
 
 
 def test_a_turned_map_of_rioxarray(tmp_path):
-    turned = PLACE * Affine.rotation(30)
+    turned = Affine(5, 0, 600000, 0, -4, 5000000) * Affine.rotation(30)
     with rioxarray.open_rasterio(tif(tmp_path / "turned.tif", values(), transform=turned), masked=True) as array:
         (spot,) = u.find(array, peak=10).spots
-    assert (spot["map_x"], spot["map_y"]) == pytest.approx(turned * (70.75, 40.9), abs=0.05) and spot["size_m"] == pytest.approx(15, rel=0.01)
+    assert (spot["map_x"], spot["map_y"]) == pytest.approx(turned * (70.75, 40.9), abs=0.05) and spot["size_m"] == pytest.approx(3 * np.sqrt(20), rel=0.01)
 
 
 def test_a_reference_written_by_rioxarray(tmp_path):
