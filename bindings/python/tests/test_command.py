@@ -58,6 +58,10 @@ def test_geojson_says_how_it_was_found(here, capsys):
     assert ran(capsys, "detect", "map.tif", "--peak", "10", "-o", "spots.geojson", "-q")[0] == 0
     about = json.loads(Path("spots.geojson").read_text())["uramsheg"]
     assert about["map"] == "map.tif" and about["set"] == "standard" and about["version"] == u.__version__ and [one["octave"] for one in about["judged"]] == [0, 1]
+    assert about["thresholds"] == {"peak": 10, "snr": None, "curvature": 0, "ratio": 12.1, "window": [1.9027314, 4.1498866]} and about["kind"] == "bright"
+    words = ("detect", "map.tif", "--window", "1.9", "inf", "--peak", "10", "-o", "spots.geojson", "--report", "spots.html", "-q")
+    assert ran(capsys, *words) == (0, "", "") and json.loads(Path("spots.geojson").read_text())["uramsheg"]["thresholds"]["window"] == [1.9, "inf"]
+    assert "1.9 to inf" in Path("spots.html").read_text()
 
 
 def test_small_holes_are_filled_on_request(here, capsys, monkeypatch):

@@ -36,8 +36,17 @@ def save(path, found, about=None):
     elif kind == ".gpkg":
         whole(path, lambda aside: write_gpkg(aside, columns(found), found.grid))
     else:
-        document = geojson(columns(found), found.grid, about or {})
+        document = geojson(columns(found), found.grid, finite(about or {}))
         whole(path, lambda aside: write_text(aside, json.dumps(document, indent=1, allow_nan=False) + "\n"))
+
+
+def finite(value):
+    """A value as JSON can hold it: a number that is not finite becomes its name."""
+    if isinstance(value, dict):
+        return {name: finite(part) for name, part in value.items()}
+    if isinstance(value, (list, tuple)):
+        return [finite(part) for part in value]
+    return str(value) if isinstance(value, float) and not np.isfinite(value) else value
 
 
 def whole(path, write):
