@@ -183,3 +183,9 @@ def test_a_map_wider_than_a_tile():
     raw[:, 4050:] = blob.spots((40, 250), (42.2, 20.3, 2.5, 100), (200.4, 21.2, 2.5, 80))
     spots = u.find(raw, peak=10).spots
     assert spots["x"].tolist() == [pytest.approx(4092.2, abs=0.02), pytest.approx(4250.4, abs=0.02)] and spots["col"].tolist() == [4092, 4250]
+
+
+def test_a_noise_next_to_none():
+    """A signal to noise beyond float64 is infinite, as it is without noise."""
+    spots = u.find(blob.spots((70, 81), SPOT), peak=10).spots
+    assert [finding.signal_to_noise(spots, noise).tolist() for noise in (1e-320, 0.0)] == [[np.inf], [np.inf]]

@@ -134,8 +134,8 @@ def response_noise(noise, sigma):
 
 
 def signal_to_noise(spots, noise):
-    """Each spot's peak over the noise of the response at its own sigma; infinite in a map without noise."""
-    with np.errstate(divide="ignore"):
+    """Each spot's peak over the noise of the response at its own sigma; infinite in a map without noise, or with next to none."""
+    with np.errstate(divide="ignore", over="ignore"):
         return abs(spots["peak"]) / response_noise(noise, spots["sigma"]) if noise else np.full(len(spots), np.inf)
 
 
