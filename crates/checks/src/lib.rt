@@ -1,6 +1,6 @@
 // Detection's checks: sides, levels, octave, thresholds and set, in their order.
 ghost use mathlib.Core.Path.{_≡_};
-ghost use Rattle.tables.specs.Refusal.{firstOf, sidesCheck};
+ghost use Rattle.tables.specs.Refusal.{firstOf, sidesCheck, octaveCheck};
 ghost use Rattle.checks.specs.Checks.{levelsCheck, detectChecks};
 use tables::Checked;
 use tables::Refusal;
@@ -21,6 +21,13 @@ fn levels_off(n0: usize, n1: usize, n2: usize, n3: usize, n: usize) -> bool
     (n0 != n) | ((n1 != n) | ((n2 != n) | (n3 != n)))
 }
 
+// Whether the octave is too high.
+fn octave_off(octave: usize) -> bool
+    ensures { λ r. ⌜ r ≡ octaveCheck octave .holds ⌝ }
+{
+    5 < octave
+}
+
 // Of detection's checks, in their order, the first that holds.
 pub fn checked(
     n0: usize,
@@ -35,6 +42,7 @@ pub fn checked(
 ) -> Checked
     ensures { λ r. ⌜ r ≡ firstOf (detectChecks n0 n1 n2 n3 rows cols octave thresholds set) ⌝ }
 {
+    let high = octave_off(octave);
     let lost = tables::has_nan(thresholds);
     let good = tables::is_good(set);
     if sides_off(rows, cols) {
@@ -43,7 +51,7 @@ pub fn checked(
     if levels_off(n0, n1, n2, n3, rows * cols) {
         return Checked::Bad(Refusal::Level);
     }
-    if 5 < octave {
+    if high {
         return Checked::Bad(Refusal::Octave);
     }
     if lost {

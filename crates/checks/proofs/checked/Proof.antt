@@ -2,13 +2,16 @@
 use native.Mathlib.Nat.{mul-le-mul}
 use native.Mathlib.Omega.{arith}
 use mathlib.Core.Path.{sym, _∙_}
-use borrow.Author.Tests.{lt-ltb, le-ltb, not-true, not-false}
+use borrow.Author.Tests.{not-true, not-false}
 use Rattle.tables.specs.Refusal.{unless, firstOf}
 use Rattle.tables.proofs.RefusalLaws.{sides-most}
 use Rattle.checks.specs.Checks.{detectChecks}
 use borrow.Author.Needs.{needs}
 use Rattle.checks.proofs.checked.Statement.{statement}
 use Rattle.checks.proofs.checked.Tie as tie
+
+octave-off-requires : tie.Need-octave-off-requires
+octave-off-requires c κs = search needs
 
 has-nan-requires : tie.Need-has-nan-requires
 has-nan-requires c κs = search needs
@@ -25,7 +28,7 @@ returns c = rw (← c .before .sides-off .ensures, c .if1 .taken)
 
 mul-levels-off : tie.Need-mul-levels-off
 mul-levels-off c =
-    let given = c .before .before .before .before .args in
+    let given = c .before .before .before .before .before .args in
     let most = sides-most (given .rows) (given .cols) (sym (c .before .sides-off .ensures) ∙ c .if1 .left) in
     omega (arith, mul-le-mul (most .0) (most .1))
 
@@ -38,24 +41,25 @@ returns-2 c = rw (← c .before .before .before .sides-off .ensures, c .before .
 
 returns-3 : tie.Need-returns-3
 unfolding detectChecks firstOf unless
-returns-3 c = rw (← c .before .before .before .before .sides-off .ensures, c .before .before .before .if1 .left, ← c .before .before .levels-off .ensures, c .before .if2 .left, lt-ltb _ _ (c .if3 .taken))
+returns-3 c = rw (← c .before .before .before .before .before .before .before .octave-off .ensures, ← c .before .before .before .before .sides-off .ensures, c .before .before .before .if1 .left, ← c .before .before .levels-off .ensures, c .before .if2 .left, c .if3 .taken)
 
 returns-4 : tie.Need-returns-4
 unfolding detectChecks firstOf unless
-returns-4 c = rw (← c .before .before .before .before .before .before .before .has-nan .ensures, ← c .before .before .before .before .before .sides-off .ensures, c .before .before .before .before .if1 .left, ← c .before .before .before .levels-off .ensures, c .before .before .if2 .left, le-ltb _ _ (c .before .if3 .left), c .if4 .taken)
+returns-4 c = rw (← c .before .before .before .before .before .before .before .before .octave-off .ensures, ← c .before .before .before .before .before .before .before .has-nan .ensures, ← c .before .before .before .before .before .sides-off .ensures, c .before .before .before .before .if1 .left, ← c .before .before .before .levels-off .ensures, c .before .before .if2 .left, c .before .if3 .left, c .if4 .taken)
 
 returns-5 : tie.Need-returns-5
 unfolding detectChecks firstOf unless
-returns-5 c = rw (← c .before .before .before .before .before .before .before .before .has-nan .ensures, ← c .before .before .before .before .before .before .before .is-good .ensures, ← c .before .before .before .before .before .before .sides-off .ensures, c .before .before .before .before .before .if1 .left, ← c .before .before .before .before .levels-off .ensures, c .before .before .before .if2 .left, le-ltb _ _ (c .before .before .if3 .left), c .before .if4 .left, not-true (c .before .before .before .before .before .before .before .is-good .result) (c .if5 .taken))
+returns-5 c = rw (← c .before .before .before .before .before .before .before .before .before .octave-off .ensures, ← c .before .before .before .before .before .before .before .before .has-nan .ensures, ← c .before .before .before .before .before .before .before .is-good .ensures, ← c .before .before .before .before .before .before .sides-off .ensures, c .before .before .before .before .before .if1 .left, ← c .before .before .before .before .levels-off .ensures, c .before .before .before .if2 .left, c .before .before .if3 .left, c .before .if4 .left, not-true (c .before .before .before .before .before .before .before .is-good .result) (c .if5 .taken))
 
 returns-6 : tie.Need-returns-6
 unfolding detectChecks firstOf unless
-returns-6 c = rw (← c .before .before .before .before .before .before .before .before .has-nan .ensures, ← c .before .before .before .before .before .before .before .is-good .ensures, ← c .before .before .before .before .before .before .sides-off .ensures, c .before .before .before .before .before .if1 .left, ← c .before .before .before .before .levels-off .ensures, c .before .before .before .if2 .left, le-ltb _ _ (c .before .before .if3 .left), c .before .if4 .left, not-false (c .before .before .before .before .before .before .before .is-good .result) (c .if5 .left))
+returns-6 c = rw (← c .before .before .before .before .before .before .before .before .before .octave-off .ensures, ← c .before .before .before .before .before .before .before .before .has-nan .ensures, ← c .before .before .before .before .before .before .before .is-good .ensures, ← c .before .before .before .before .before .before .sides-off .ensures, c .before .before .before .before .before .if1 .left, ← c .before .before .before .before .levels-off .ensures, c .before .before .before .if2 .left, c .before .before .if3 .left, c .before .if4 .left, not-false (c .before .before .before .before .before .before .before .is-good .result) (c .if5 .left))
 
 pub checked-spec : {M : Type 1} → statement M
 checked-spec =
     tie.close
     (tie.spec
+    octave-off-requires
     has-nan-requires
     is-good-requires
     sides-off-requires
