@@ -1,4 +1,4 @@
--- `checked` meets its contract: each return follows from the tests on the way to it.
+-- `checked` meets its contract: each return follows from the tests on the way to it. Every test is put for its check, also where a return needs fewer.
 use native.Mathlib.Nat.{mul-le-mul}
 use native.Mathlib.Omega.{arith}
 use mathlib.Core.Path.{sym, _∙_}
@@ -24,7 +24,7 @@ sides-off-requires c κs = search needs
 
 returns : tie.Need-returns
 unfolding detectChecks firstOf unless
-returns c = rw (← c .before .sides-off .ensures, c .if1 .taken)
+returns c = rw (← c .before .before .before .before .octave-off .ensures, ← c .before .before .before .has-nan .ensures, ← c .before .before .is-good .ensures, ← c .before .sides-off .ensures, c .if1 .taken)
 
 mul-levels-off : tie.Need-mul-levels-off
 mul-levels-off c =
@@ -37,15 +37,15 @@ levels-off-requires c κs = search needs
 
 returns-2 : tie.Need-returns-2
 unfolding detectChecks firstOf unless
-returns-2 c = rw (← c .before .before .before .sides-off .ensures, c .before .before .if1 .left, ← c .before .levels-off .ensures, c .if2 .taken)
+returns-2 c = rw (← c .before .before .before .before .before .before .octave-off .ensures, ← c .before .before .before .before .before .has-nan .ensures, ← c .before .before .before .before .is-good .ensures, ← c .before .before .before .sides-off .ensures, c .before .before .if1 .left, ← c .before .levels-off .ensures, c .if2 .taken)
 
 returns-3 : tie.Need-returns-3
 unfolding detectChecks firstOf unless
-returns-3 c = rw (← c .before .before .before .before .before .before .before .octave-off .ensures, ← c .before .before .before .before .sides-off .ensures, c .before .before .before .if1 .left, ← c .before .before .levels-off .ensures, c .before .if2 .left, c .if3 .taken)
+returns-3 c = rw (← c .before .before .before .before .before .before .before .octave-off .ensures, ← c .before .before .before .before .before .before .has-nan .ensures, ← c .before .before .before .before .before .is-good .ensures, ← c .before .before .before .before .sides-off .ensures, c .before .before .before .if1 .left, ← c .before .before .levels-off .ensures, c .before .if2 .left, c .if3 .taken)
 
 returns-4 : tie.Need-returns-4
 unfolding detectChecks firstOf unless
-returns-4 c = rw (← c .before .before .before .before .before .before .before .before .octave-off .ensures, ← c .before .before .before .before .before .before .before .has-nan .ensures, ← c .before .before .before .before .before .sides-off .ensures, c .before .before .before .before .if1 .left, ← c .before .before .before .levels-off .ensures, c .before .before .if2 .left, c .before .if3 .left, c .if4 .taken)
+returns-4 c = rw (← c .before .before .before .before .before .before .before .before .octave-off .ensures, ← c .before .before .before .before .before .before .before .has-nan .ensures, ← c .before .before .before .before .before .before .is-good .ensures, ← c .before .before .before .before .before .sides-off .ensures, c .before .before .before .before .if1 .left, ← c .before .before .before .levels-off .ensures, c .before .before .if2 .left, c .before .if3 .left, c .if4 .taken)
 
 returns-5 : tie.Need-returns-5
 unfolding detectChecks firstOf unless
