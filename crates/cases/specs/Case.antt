@@ -5,6 +5,7 @@ use mathlib.Core.Bool.{Bool}
 use lib.Ieee.{Float, binary32, ofBits, toBits}
 use Rattle.float.specs.Sqrt.{sqrtOf}
 use Rattle.float.specs.Log.{log2Of}
+use Rattle.whole.specs.Nearest.{nearestOf}
 use Rattle.tables.specs.Refusal.{number}
 use Rattle.tables.specs.SetT.{values}
 use Rattle.tables.specs.declared.Set.{Set}
@@ -29,6 +30,10 @@ rootCase x due = record { given = toBits binary32 (sqrtOf (ofBits binary32 x)) �
 -- the logarithm of a pattern
 unfoldable pub logCase : ℕ → ℕ → Case
 logCase x due = record { given = toBits binary32 (log2Of (ofBits binary32 x)) ∷ []; due = due ∷ [] }
+
+-- the whole number nearest to a pattern's value
+unfoldable pub nearestCase : ℕ → ℕ → Case
+nearestCase x due = record { given = nearestOf (ofBits binary32 x) ∷ []; due = due ∷ [] }
 
 -- a cubic's value at s
 unfoldable pub valueCase : List ℕ → ℕ → ℕ → Case

@@ -11,9 +11,10 @@ use Rattle.tables.specs.declared.Checked.the-variants.{Fine, Bad}
 use Rattle.tables.specs.Refusal.{number, firstOf}
 use Rattle.tables.specs.SetT.{setT}
 use Rattle.checks.specs.Checks.{detectChecks}
-use Rattle.record.specs.Layout.{bytesOf}
+use Rattle.record.specs.Layout.{recordAt, bytesOf}
 use Rattle.samples.specs.Level.{Maps, mapsOf}
 use Rattle.alp.specs.Due as dues
+use Rattle.join.specs.Sized.{sizedBytes}
 use Rattle.cases.specs.Case.{Case}
 
 -- a level of 9 rows and 10 cols, all 0
@@ -57,6 +58,10 @@ bytesM =
 -- the bytes of the list that is due for map M with this level 0
 unfoldable pub mapCase : List Float → List ℕ → Case
 mapCase l0 bytes = record { given = bytesOf (dues.due (mapM l0)); due = bytes }
+
+-- the sized record of a spot's bytes under set T
+unfoldable pub sizedCase : List ℕ → List ℕ → Case
+sizedCase spot bytes = record { given = sizedBytes setT (recordAt spot 0); due = bytes }
 
 -- the number of a refusal; 0 where nothing is refused
 unfoldable pub ofChecked : Checked → List ℕ

@@ -1,10 +1,10 @@
 -- The worked cases in a single table: what the definitions give beside what documents 01 and 02 say. Definitions only.
-use mathlib.Core.List.{List, [], _∷_}
+use mathlib.Core.List.{List, [], _∷_, _++_}
 use mathlib.Core.Bool.{true, false}
 use Rattle.tables.specs.Set.{blank}
 use Rattle.tables.specs.SetT.{sigmasT, cubicT, setT}
-use Rattle.cases.specs.Case.{Case, rootCase, logCase, valueCase, extremeCase, countCase, envelopeCase, correctionCase}
-use Rattle.cases.specs.MapM.{put, levelM, bytesM, mapCase, thresholdsOf, thresholdsM, checksCase}
+use Rattle.cases.specs.Case.{Case, rootCase, logCase, nearestCase, valueCase, extremeCase, countCase, envelopeCase, correctionCase}
+use Rattle.cases.specs.MapM.{put, levelM, bytesM, mapCase, sizedCase, thresholdsOf, thresholdsM, checksCase}
 
 -- the worked cases in document 01's order; after P12 the other cases of the correction, then those of document 02's requests
 unfoldable pub table : List Case
@@ -60,4 +60,19 @@ table =
     ∷ checksCase 0 thresholdsM blank (4 ∷ [])
     -- Infinities, and a window from high to low, are not refused.
     ∷ checksCase 0 (thresholdsOf 0x7f800000 0xff800000 0x7f800000 0x7f800000 0xff800000) setT (0 ∷ [])
+    -- No. 2 the whole number nearest to 0, -0, the f32 just below 0.5, 0.5, 2.5, 3.5, 4.5, the f32 just below 4,094.5, and 4,094.5; a half goes to the larger.
+    ∷ nearestCase 0x00000000 0
+    ∷ nearestCase 0x80000000 0
+    ∷ nearestCase 0x3effffff 0
+    ∷ nearestCase 0x3f000000 1
+    ∷ nearestCase 0x40200000 3
+    ∷ nearestCase 0x40600000 4
+    ∷ nearestCase 0x40900000 5
+    ∷ nearestCase 0x457fe7ff 4094
+    ∷ nearestCase 0x457fe800 4095
+    -- Map M's spot, sized: its 40 bytes, sigma 2.828427, home row 4 and col 5 (x is 4.5), accepted.
+    ∷ sizedCase bytesM (bytesM ++ (0xf3 ∷ 0x04 ∷ 0x35 ∷ 0x40 ∷ 0x04 ∷ 0x00 ∷ 0x05 ∷ 0x00 ∷ 0x01 ∷ 0x00 ∷ 0x00 ∷ 0x00 ∷ []))
+    -- Its 21 pixels stay those around (4,4): with (4,7) of level 0 NaN it is as P9, with (4,2) there is none.
+    ∷ mapCase (put 4 7 0x7fc00000 levelM) bytesM
+    ∷ mapCase (put 4 2 0x7fc00000 levelM) []
     ∷ []

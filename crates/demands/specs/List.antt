@@ -45,7 +45,7 @@ Before r t = (r .key < t .key) ⊎ ((r .key ≡ t .key) × (r .polarity ≡ 0) �
 abbrev pub Rising : List Record → Type 0
 Rising rs = (i j : ℕ) (r t : Record) → i < j → StandsAt rs i r → StandsAt rs j t → Before r t
 
--- r tells that it is of the pixel (row, col) at one polarity: the home pixel is the order key's own, key / cols and key % cols
+-- r tells that it is of the pixel (row, col) at one polarity: that pixel is the order key's own, key / cols and key % cols, wherever refinement moved the spot
 pub record Of (cols row col : ℕ) (isMax : Bool) (r : Record) : Type 0 where
   pub row-is : r .key / cols ≡ row
   pub col-is : r .key % cols ≡ col

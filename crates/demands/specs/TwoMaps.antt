@@ -32,7 +32,7 @@ clearTo lost row col (suc n) =
 abbrev pub clear : (ℕ → ℕ → Bool) → ℕ → ℕ → Bool
 clear lost row col = clearTo lost row col 25
 
--- none of a spot's 21 pixels is lost: they are those of its order key's pixel, wherever refinement moves it
+-- none of a spot's 21 pixels is lost: they are those of its order key's pixel, wherever refinement moves it, and not those of its home
 unfoldable pub spared : (ℕ → ℕ → Bool) → ℕ → Record → Bool
 spared lost cols r = clear lost (r .key / cols) (r .key % cols)
 

@@ -1,17 +1,20 @@
 -- Comparisons of two values: NaN, equal values, the order one way round, and through a third value. Assumes nothing.
-use mathlib.Core.Path.{_≡_, refl, sym, subst}
+use mathlib.Core.Path.{_≡_, refl, sym, ap, _∙_, subst}
 use mathlib.Core.Logic.{inl, inr}
-use Prim.Native.Nat.{ℕ, _+_, _*_, _≤_, _<_}
-use native.Mathlib.Nat.{le-trans, le-of-eq, lt-of-lt-of-le, lt-of-le-of-lt, eq-zero-or-pos, eq-or-lt-of-le, mul-pos, mul-right-comm, mul-le-mul-right, mul-lt-mul-of-pos-right, lt-of-mul-lt-mul-right}
+use Prim.Native.Nat.{ℕ, _+_, _*_, _≤_, _<_, zero-le}
+use native.Mathlib.Nat.{le-trans, le-of-eq, le-of-lt, lt-of-lt-of-le, lt-of-le-of-lt, eq-zero-or-pos, eq-or-lt-of-le, mul-pos, mul-one, zero-mul, mul-right-comm, mul-le-mul-right, mul-lt-mul-of-pos-right, lt-of-mul-lt-mul-right, le-of-mul-le-mul-right}
 use native.Mathlib.Omega.{arith}
 use mathlib.Core.Bool.{Bool, true, false, not, _&&_, _||_, true≢false, false≢true}
+use lib.IntN.{ℤ, pos}
 use lib.Dec.{T, ltb, eqb, ltb→lt, lt→ltb, eqb→eq, eqb-refl}
 use lib.Ieee.{Float, nan, inf, fin, up, down, below, level, lt, le, eq, isNan}
 use lib.Ieee.Exact.{HasValue}
 use lib.Ieee.Fits.{and-l, and-r, down-pos}
 use lib.Ieee.Order.{transfer}
-use lib.Ieee.Positive.{first-pos}
+use lib.Ieee.Positive.{num, den, first-pos}
 use borrow.Author.Tests.{le-ltb, ltb-false}
+use Rattle.float.specs.Num.{f0}
+use Rattle.float.proofs.Floats.{zero-is}
 
 -- ---- beside a NaN
 pub lt-nan : (a : Float) → (lt a nan ≡ false) × (lt nan a ≡ false)
@@ -196,3 +199,41 @@ le-of-negatives (fin true m e) (inf t) a c b c' C C' p q h = absurd q
 le-of-negatives (fin true m e) (fin false n d) a c b c' C C' p q h = absurd (false≢true (q .0))
 le-of-negatives (fin true m e) (fin true n d) a c b c' C C' p q h =
     neg-le (m * up e * down d) (n * up d * down e) (transfer (n * up d) (m * up e) (down d) (down e) b a c' c C' C (q .1) (p .1) h)
+
+-- ---- a value that is not below 0, either zero among them
+
+-- what `le` says of two numbers without a sign
+pub le-says : (a b : ℕ) → T (ltb a b || (eqb a b && true)) → a ≤ b
+le-says a b t = go (ltb a b) (eqb a b) (ltb→lt a b) (eqb→eq a b) t
+  where
+    go : (x y : Bool) → (T x → a < b) → (T y → a ≡ b) → T (x || (y && true)) → a ≤ b
+    go true y p q t = le-of-lt (p tt)
+    go false true p q t = le-of-eq (q tt)
+    go false false p q t = absurd t
+
+-- with a sign it is 0
+pub minus-none : (m : ℕ) (e : ℤ) → T (le f0 (fin true m e)) → m * up e ≡ 0
+unfolding le
+minus-none m e t = from (subst (λ (z : Float). T (le z (fin true m e))) zero-is t)
+  where
+    plain : (n d : ℕ) → 0 * 1 * d ≡ n * 1 → n ≡ 0
+    plain n d k = sym (mul-one n) ∙ sym k ∙ zero-mul d
+
+    from : T (le (fin false 0 (pos 0)) (fin true m e)) → m * up e ≡ 0
+    from t = plain (m * up e) (down e) (eqb→eq (0 * 1 * down e) (m * up e * 1) (and-l (eqb (0 * 1 * down e) (m * up e * 1)) (eqb (0 * 1 * down e) 0) t))
+
+-- at most y, which is b / c, it is a number whose size is at most b / c
+pub up-to : (x y : Float) (b c : ℕ) → HasValue y false b c → T (le f0 x) → T (le x y) → num x * c ≤ b * den x
+unfolding le
+up-to nan y b c v p t = absurd t
+up-to (inf s) y b c v p t = le-trans (le-of-eq (zero-mul c)) zero-le
+up-to (fin s m e) nan b c v p t = absurd v
+up-to (fin s m e) (inf r) b c v p t = absurd v
+up-to (fin true m e) (fin r n d) b c v p t = le-trans (le-of-eq (ap (λ (k : ℕ). k * c) (minus-none m e p) ∙ zero-mul c)) zero-le
+up-to (fin false m e) (fin true n d) b c v p t = absurd (true≢false (v .0))
+up-to (fin false m e) (fin false n d) b c v p t =
+    le-of-mul-le-mul-right
+    (le-trans (le-of-eq (mul-right-comm (m * up e) c (down d)))
+    (le-trans (mul-le-mul-right c (le-says (m * up e * down d) (n * up d * down e) t))
+    (le-of-eq (mul-right-comm (n * up d) (down e) c ∙ ap (λ (k : ℕ). k * down e) (v .1) ∙ mul-right-comm b (down d) (down e)))))
+    (down-pos d)

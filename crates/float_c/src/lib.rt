@@ -1,9 +1,10 @@
-// The float helpers for a C or Rust program to link, by the promises of float alone.
+// The float helpers for a C or Rust program to link, by the promises of float and whole alone.
 ghost use mathlib.Core.Path.{_≡_};
 ghost use Rattle.float.specs.Small.{finite, absOf, minOf, maxOf, clampOf};
 ghost use Rattle.float.specs.Sqrt.{sqrtOf};
 ghost use Rattle.float.specs.Log.{log2Of};
 ghost use Rattle.float.specs.Exp.{expOf};
+ghost use Rattle.whole.specs.Nearest.{nearestOf};
 
 #[no_mangle]
 pub extern "C" fn uramsheg_abs(x: f32) -> f32
@@ -59,4 +60,11 @@ pub extern "C" fn uramsheg_exp(x: f32) -> f32
     ensures { λ r. ⌜ r ≡ expOf x ⌝ }
 {
     float::exp(x)
+}
+
+#[no_mangle]
+pub extern "C" fn uramsheg_nearest(x: f32) -> u32
+    ensures { λ r. ⌜ r ≡ nearestOf x ⌝ }
+{
+    whole::nearest(x)
 }

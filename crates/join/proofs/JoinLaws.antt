@@ -1,5 +1,5 @@
 -- What the join gives each spot: a size and a home from its own record alone, beside the record itself.
-use Prim.Native.Nat.{ℕ, zero, suc, _+_, _*_, _/_, _%_, _<_}
+use Prim.Native.Nat.{ℕ, zero, suc, _+_, _*_, _/_, _<_}
 use native.Mathlib.Nat.{not-suc-le-zero, le-of-suc-le-suc, zero-add}
 use native.Mathlib.Omega.{arith}
 use mathlib.Core.Bool.{true, false}
@@ -21,6 +21,7 @@ use Rattle.tables.specs.declared.Checked.the-variants.{Fine, Bad}
 use Rattle.tables.proofs.SetLaws.{every-or-default}
 use Rattle.record.specs.declared.Record.{Record}
 use Rattle.words.specs.Words.{floatBytes}
+use Rattle.whole.specs.Nearest.{nearestOf}
 use Rattle.record.specs.Layout.{spotWidth, recordBytes, recordAt}
 use Rattle.record.proofs.LayoutLaws.{length-recordBytes}
 use Rattle.record.proofs.ReadableLaws.{readable-parts}
@@ -44,10 +45,10 @@ module _ (s : Set) (r : Record) where
   size-is-corrects g = rw g
 
   -- where correction answers a size, it stands after the record, then the home pixel, then accepted 1
-  pub sized-with-size : (cols : ℕ) (sigma : Float) → correctOf s (samplesIn r) (r .sigma) (eqb (r .polarity) 1) ≡ Size sigma
-      → sizedBytes s cols r ≡ recordBytes r ++ (floatBytes sigma ++ (halfBytes (r .key / cols) ++ (halfBytes (r .key % cols) ++ (1 ∷ 0 ∷ 0 ∷ 0 ∷ []))))
+  pub sized-with-size : (sigma : Float) → correctOf s (samplesIn r) (r .sigma) (eqb (r .polarity) 1) ≡ Size sigma
+      → sizedBytes s r ≡ recordBytes r ++ (floatBytes sigma ++ (halfBytes (nearestOf (r .y)) ++ (halfBytes (nearestOf (r .x)) ++ (1 ∷ 0 ∷ 0 ∷ 0 ∷ []))))
   unfolding sizedBytes tailBytes sizeOf homeOf givenSigma acceptedOf
-  sized-with-size cols sigma e = rw (size-is-corrected s (samplesIn r) (r .sigma) (eqb (r .polarity) 1) sigma e .1)
+  sized-with-size sigma e = rw (size-is-corrected s (samplesIn r) (r .sigma) (eqb (r .polarity) 1) sigma e .1)
 
   no-size : correctOf s (samplesIn r) (r .sigma) (eqb (r .polarity) 1) ≡ Refused refusal.NoSize → correctedOf s (samplesIn r) (r .sigma) (eqb (r .polarity) 1) ≡ NoSize
   unfolding number
@@ -58,10 +59,10 @@ module _ (s : Set) (r : Record) where
       go (inr h) = h .1
 
   -- where correction answers that there is none, +0.0 and accepted 0 stand there
-  pub sized-without : (cols : ℕ) → correctOf s (samplesIn r) (r .sigma) (eqb (r .polarity) 1) ≡ Refused refusal.NoSize
-      → sizedBytes s cols r ≡ recordBytes r ++ (floatBytes f0 ++ (halfBytes (r .key / cols) ++ (halfBytes (r .key % cols) ++ (0 ∷ 0 ∷ 0 ∷ 0 ∷ []))))
+  pub sized-without : correctOf s (samplesIn r) (r .sigma) (eqb (r .polarity) 1) ≡ Refused refusal.NoSize
+      → sizedBytes s r ≡ recordBytes r ++ (floatBytes f0 ++ (halfBytes (nearestOf (r .y)) ++ (halfBytes (nearestOf (r .x)) ++ (0 ∷ 0 ∷ 0 ∷ 0 ∷ []))))
   unfolding sizedBytes tailBytes sizeOf homeOf givenSigma acceptedOf
-  sized-without cols e = rw (no-size e)
+  sized-without e = rw (no-size e)
 
 -- records that agree in the four samples, sigma and polarity have the same size, whatever else differs
 pub size-own : (s : Set) (r t : Record) → r .s0 ≡ t .s0 → r .s1 ≡ t .s1 → r .s2 ≡ t .s2 → r .s3 ≡ t .s3 → r .sigma ≡ t .sigma → r .polarity ≡ t .polarity → sizeOf s r ≡ sizeOf s t
@@ -70,39 +71,39 @@ size-own s r t e0 e1 e2 e3 sigma polarity = rw (e0, e1, e2, e3, sigma, polarity)
 
 -- ---- sized records, one after the other
 
-module _ (s : Set) (cols : ℕ) (b : List ℕ) where
-  sized-among : (n k i : ℕ) (rest : List ℕ) → i < n → take sizedWidth (drop (i * sizedWidth) (sizedAll s cols (recordsFrom b n k) ++ rest)) ≡ sizedBytes s cols (recordAt b (k + i))
+module _ (s : Set) (b : List ℕ) where
+  sized-among : (n k i : ℕ) (rest : List ℕ) → i < n → take sizedWidth (drop (i * sizedWidth) (sizedAll s (recordsFrom b n k) ++ rest)) ≡ sizedBytes s (recordAt b (k + i))
   unfolding sizedAll recordsFrom
   sized-among zero k i rest h = absurd (not-suc-le-zero h)
   sized-among (suc n) k zero rest h =
       let first : zero * sizedWidth ≡ 0 = omega arith in
       let same : k + zero ≡ k = omega arith in
-      rw (first, same, append-assoc (sizedBytes s cols (recordAt b k)) (sizedAll s cols (recordsFrom b n (suc k))) rest) (take-at (sizedBytes s cols (recordAt b k)) _ sizedWidth (length-sizedBytes s cols (recordAt b k)))
+      rw (first, same, append-assoc (sizedBytes s (recordAt b k)) (sizedAll s (recordsFrom b n (suc k))) rest) (take-at (sizedBytes s (recordAt b k)) _ sizedWidth (length-sizedBytes s (recordAt b k)))
   sized-among (suc n) k (suc i) rest h =
-      let own : List ℕ = sizedBytes s cols (recordAt b k) in
-      let place : suc i * sizedWidth ≡ length own + i * sizedWidth = omega (arith, length-sizedBytes s cols (recordAt b k)) in
+      let own : List ℕ = sizedBytes s (recordAt b k) in
+      let place : suc i * sizedWidth ≡ length own + i * sizedWidth = omega (arith, length-sizedBytes s (recordAt b k)) in
       let next : k + suc i ≡ suc k + i = omega arith in
-      rw (place, next, append-assoc own (sizedAll s cols (recordsFrom b n (suc k))) rest, drop-append-add own (sizedAll s cols (recordsFrom b n (suc k)) ++ rest) (i * sizedWidth)) (sized-among n (suc k) i rest (le-of-suc-le-suc h))
+      rw (place, next, append-assoc own (sizedAll s (recordsFrom b n (suc k))) rest, drop-append-add own (sizedAll s (recordsFrom b n (suc k)) ++ rest) (i * sizedWidth)) (sized-among n (suc k) i rest (le-of-suc-le-suc h))
 
-  pub laid-sized-at : (out : List ℕ) (i : ℕ) → i < length b / spotWidth → take sizedWidth (drop (i * sizedWidth) (laidSized s cols b out)) ≡ sizedBytes s cols (recordAt b i)
+  pub laid-sized-at : (out : List ℕ) (i : ℕ) → i < length b / spotWidth → take sizedWidth (drop (i * sizedWidth) (laidSized s b out)) ≡ sizedBytes s (recordAt b i)
   unfolding laidSized
-  laid-sized-at out i h = sized-among (length b / spotWidth) 0 i _ h ∙ ap (λ (k : ℕ). sizedBytes s cols (recordAt b k)) (zero-add i)
+  laid-sized-at out i h = sized-among (length b / spotWidth) 0 i _ h ∙ ap (λ (k : ℕ). sizedBytes s (recordAt b k)) (zero-add i)
 
 -- ---- a call that answers a count
 
-counted : (w : Checked) (s : Set) (cols : ℕ) (b out : List ℕ) (n : ℕ) → joined w s cols b out .answer ≡ Count n
-    → (w ≡ Fine) × (n ≡ length b / spotWidth) × (joined w s cols b out .buffer ≡ laidSized s cols b out)
+counted : (w : Checked) (s : Set) (b out : List ℕ) (n : ℕ) → joined w s b out .answer ≡ Count n
+    → (w ≡ Fine) × (n ≡ length b / spotWidth) × (joined w s b out .buffer ≡ laidSized s b out)
 unfolding joined
-counted (Bad r) s cols b out n e = (cc, cc, cc)
-counted Fine s cols b out n e = (refl, cc, refl)
+counted (Bad r) s b out n e = (cc, cc, cc)
+counted Fine s b out n e = (refl, cc, refl)
 
 module _ (s : Set) (rows cols : ℕ) (list out : List ℕ) (n : ℕ) (answered : joinOf s rows cols list out .answer ≡ Count n) where
   abbrev after : List ℕ
   after = joinOf s rows cols list out .buffer
 
-  parts : (firstOf (joinChecks s rows cols list (length out)) ≡ Fine) × (n ≡ length list / spotWidth) × (after ≡ laidSized s cols list out)
+  parts : (firstOf (joinChecks s rows cols list (length out)) ≡ Fine) × (n ≡ length list / spotWidth) × (after ≡ laidSized s list out)
   unfolding joinOf
-  parts = counted _ s cols list out n answered
+  parts = counted _ s list out n answered
 
   pub passed : Passed s rows cols list (length out)
   passed = checks-passed s rows cols list (length out) (parts .0)
@@ -111,9 +112,9 @@ module _ (s : Set) (rows cols : ℕ) (list out : List ℕ) (n : ℕ) (answered :
   pub count-is : n ≡ length list / spotWidth
   count-is = parts .1
 
-  -- the i-th sized record is a function of the i-th record, the set and cols alone
-  pub sized-at : (i : ℕ) → i < n → take sizedWidth (drop (i * sizedWidth) after) ≡ sizedBytes s cols (recordAt list i)
-  sized-at i h = ap (λ (b : List ℕ). take sizedWidth (drop (i * sizedWidth) b)) (parts .2) ∙ laid-sized-at s cols list out i (omega (arith, count-is))
+  -- the i-th sized record is a function of the i-th record and the set alone
+  pub sized-at : (i : ℕ) → i < n → take sizedWidth (drop (i * sizedWidth) after) ≡ sizedBytes s (recordAt list i)
+  sized-at i h = ap (λ (b : List ℕ). take sizedWidth (drop (i * sizedWidth) b)) (parts .2) ∙ laid-sized-at s list out i (omega (arith, count-is))
 
   -- the spot's own bytes stand in its sized record unchanged
   pub record-kept : (i : ℕ) → i < n → allUnder 256 list ≡ true → take spotWidth (drop (i * sizedWidth) after) ≡ take spotWidth (drop (i * spotWidth) list)
@@ -127,17 +128,17 @@ module _ (s : Set) (rows cols : ℕ) (list out : List ℕ) (n : ℕ) (answered :
       ∙ take-at (recordBytes r) _ spotWidth (length-recordBytes r)
       ∙ converse.record-kept list bytes (i * spotWidth) (omega arith) (readable-parts rows cols r (passed .fair i inside) .floats)
 
--- two calls with the same set and cols give equal records the same size and home, at whatever place and among whatever others
-pub same-record-same-size : (s : Set) (cols rows rows' : ℕ) (list list' out out' : List ℕ) (n n' i j : ℕ)
-    → joinOf s rows cols list out .answer ≡ Count n → joinOf s rows' cols list' out' .answer ≡ Count n' → i < n → j < n' → recordAt list i ≡ recordAt list' j
-    → take sizedWidth (drop (i * sizedWidth) (joinOf s rows cols list out .buffer)) ≡ take sizedWidth (drop (j * sizedWidth) (joinOf s rows' cols list' out' .buffer))
-same-record-same-size s cols rows rows' list list' out out' n n' i j a a' h h' e =
-    sized-at s rows cols list out n a i h ∙ ap (sizedBytes s cols) e ∙ sym (sized-at s rows' cols list' out' n' a' j h')
+-- two calls with the same set give equal records the same size and home, on whatever maps, at whatever place and among whatever others
+pub same-record-same-size : (s : Set) (rows cols rows' cols' : ℕ) (list list' out out' : List ℕ) (n n' i j : ℕ)
+    → joinOf s rows cols list out .answer ≡ Count n → joinOf s rows' cols' list' out' .answer ≡ Count n' → i < n → j < n' → recordAt list i ≡ recordAt list' j
+    → take sizedWidth (drop (i * sizedWidth) (joinOf s rows cols list out .buffer)) ≡ take sizedWidth (drop (j * sizedWidth) (joinOf s rows' cols' list' out' .buffer))
+same-record-same-size s rows cols rows' cols' list list' out out' n n' i j a a' h h' e =
+    sized-at s rows cols list out n a i h ∙ ap (sizedBytes s) e ∙ sym (sized-at s rows' cols' list' out' n' a' j h')
 
 -- and the same of equal bytes
-pub same-bytes-same-size : (s : Set) (cols rows rows' : ℕ) (list list' out out' : List ℕ) (n n' i j : ℕ)
-    → joinOf s rows cols list out .answer ≡ Count n → joinOf s rows' cols list' out' .answer ≡ Count n' → i < n → j < n'
+pub same-bytes-same-size : (s : Set) (rows cols rows' cols' : ℕ) (list list' out out' : List ℕ) (n n' i j : ℕ)
+    → joinOf s rows cols list out .answer ≡ Count n → joinOf s rows' cols' list' out' .answer ≡ Count n' → i < n → j < n'
     → take spotWidth (drop (i * spotWidth) list) ≡ take spotWidth (drop (j * spotWidth) list')
-    → take sizedWidth (drop (i * sizedWidth) (joinOf s rows cols list out .buffer)) ≡ take sizedWidth (drop (j * sizedWidth) (joinOf s rows' cols list' out' .buffer))
-same-bytes-same-size s cols rows rows' list list' out out' n n' i j a a' h h' e =
-    same-record-same-size s cols rows rows' list list' out out' n n' i j a a' h h' (converse.same-bytes-same-record list list' (i * spotWidth) (j * spotWidth) e)
+    → take sizedWidth (drop (i * sizedWidth) (joinOf s rows cols list out .buffer)) ≡ take sizedWidth (drop (j * sizedWidth) (joinOf s rows' cols' list' out' .buffer))
+same-bytes-same-size s rows cols rows' cols' list list' out out' n n' i j a a' h h' e =
+    same-record-same-size s rows cols rows' cols' list list' out out' n n' i j a a' h h' (converse.same-bytes-same-record list list' (i * spotWidth) (j * spotWidth) e)

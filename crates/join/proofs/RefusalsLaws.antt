@@ -26,40 +26,40 @@ use Rattle.tables.proofs.RefusalLaws as order
 
 -- ---- over the outcome of the checks
 
-answer-refused : (w : Checked) (s : Set) (cols : ℕ) (b out : List ℕ) (r : Refusal) → joined w s cols b out .answer ≡ Refused r → w ≡ Bad r
+answer-refused : (w : Checked) (s : Set) (b out : List ℕ) (r : Refusal) → joined w s b out .answer ≡ Refused r → w ≡ Bad r
 unfolding joined
-answer-refused (Bad q) s cols b out r e = cc
-answer-refused Fine s cols b out r e = cc
+answer-refused (Bad q) s b out r e = cc
+answer-refused Fine s b out r e = cc
 
-answer-counted : (w : Checked) (s : Set) (cols : ℕ) (b out : List ℕ) (n : ℕ) → joined w s cols b out .answer ≡ Count n → w ≡ Fine
+answer-counted : (w : Checked) (s : Set) (b out : List ℕ) (n : ℕ) → joined w s b out .answer ≡ Count n → w ≡ Fine
 unfolding joined
-answer-counted (Bad q) s cols b out n e = cc
-answer-counted Fine s cols b out n e = refl
+answer-counted (Bad q) s b out n e = cc
+answer-counted Fine s b out n e = refl
 
-buffer-kept : (w : Checked) (s : Set) (cols : ℕ) (b out : List ℕ) (r : Refusal) → joined w s cols b out .answer ≡ Refused r → joined w s cols b out .buffer ≡ out
+buffer-kept : (w : Checked) (s : Set) (b out : List ℕ) (r : Refusal) → joined w s b out .answer ≡ Refused r → joined w s b out .buffer ≡ out
 unfolding joined
-buffer-kept (Bad q) s cols b out r e = refl
-buffer-kept Fine s cols b out r e = cc
+buffer-kept (Bad q) s b out r e = refl
+buffer-kept Fine s b out r e = cc
 
-joined-length : (w : Checked) (s : Set) (cols : ℕ) (b out : List ℕ) → (w ≡ Fine → length b / spotWidth * sizedWidth ≤ length out) → length (joined w s cols b out .buffer) ≡ length out
+joined-length : (w : Checked) (s : Set) (b out : List ℕ) → (w ≡ Fine → length b / spotWidth * sizedWidth ≤ length out) → length (joined w s b out .buffer) ≡ length out
 unfolding joined
-joined-length (Bad r) s cols b out room = refl
-joined-length Fine s cols b out room = ap length (sym (stored-laid s cols b out (room refl))) ∙ length-sets out 0 (sizedAll s cols (recordsOf b))
+joined-length (Bad r) s b out room = refl
+joined-length Fine s b out room = ap length (sym (stored-laid s b out (room refl))) ∙ length-sets out 0 (sizedAll s (recordsOf b))
 
-laid-rest : (s : Set) (cols : ℕ) (b out : List ℕ) → drop (length b / spotWidth * sizedWidth) (laidSized s cols b out) ≡ drop (length b / spotWidth * sizedWidth) out
+laid-rest : (s : Set) (b out : List ℕ) → drop (length b / spotWidth * sizedWidth) (laidSized s b out) ≡ drop (length b / spotWidth * sizedWidth) out
 unfolding laidSized
-laid-rest s cols b out = drop-at (sizedAll s cols (recordsOf b)) _ (length b / spotWidth * sizedWidth) (length-all s cols b) ∙ ap (λ (k : ℕ). drop k out) (length-all s cols b)
+laid-rest s b out = drop-at (sizedAll s (recordsOf b)) _ (length b / spotWidth * sizedWidth) (length-all s b) ∙ ap (λ (k : ℕ). drop k out) (length-all s b)
 
-laid-keeps : (s : Set) (cols : ℕ) (b out : List ℕ) (i : ℕ) → length b / spotWidth * sizedWidth ≤ i → getD (laidSized s cols b out) i 0 ≡ getD out i 0
-laid-keeps s cols b out i h =
+laid-keeps : (s : Set) (b out : List ℕ) (i : ℕ) → length b / spotWidth * sizedWidth ≤ i → getD (laidSized s b out) i 0 ≡ getD out i 0
+laid-keeps s b out i h =
     let k : ℕ = length b / spotWidth * sizedWidth in
     let e : k + (i - k) ≡ i = omega arith in
-    rw (← e, ← getD-drop k (laidSized s cols b out) (i - k) 0, laid-rest s cols b out, getD-drop k out (i - k) 0)
+    rw (← e, ← getD-drop k (laidSized s b out) (i - k) 0, laid-rest s b out, getD-drop k out (i - k) 0)
 
-joined-keeps : (w : Checked) (s : Set) (cols : ℕ) (b out : List ℕ) (i : ℕ) → length b / spotWidth * sizedWidth ≤ i → getD (joined w s cols b out .buffer) i 0 ≡ getD out i 0
+joined-keeps : (w : Checked) (s : Set) (b out : List ℕ) (i : ℕ) → length b / spotWidth * sizedWidth ≤ i → getD (joined w s b out .buffer) i 0 ≡ getD out i 0
 unfolding joined
-joined-keeps (Bad r) s cols b out i h = refl
-joined-keeps Fine s cols b out i h = laid-keeps s cols b out i h
+joined-keeps (Bad r) s b out i h = refl
+joined-keeps Fine s b out i h = laid-keeps s b out i h
 
 -- ---- the list's checks
 
@@ -90,23 +90,23 @@ module _ (s : Set) (rows cols : ℕ) (list out : List ℕ) where
   -- a refusal writes nothing
   pub refused-keeps : (r : Refusal) → after .answer ≡ Refused r → after .buffer ≡ out
   unfolding joinOf
-  refused-keeps r e = buffer-kept _ s cols list out r e
+  refused-keeps r e = buffer-kept _ s list out r e
 
   -- the buffer keeps its length
   pub length-kept : length (after .buffer) ≡ length out
   unfolding joinOf
-  length-kept = joined-length _ s cols list out (λ fine. checks-passed s rows cols list (length out) fine .room-enough)
+  length-kept = joined-length _ s list out (λ fine. checks-passed s rows cols list (length out) fine .room-enough)
 
   -- bytes past the sized records are kept
   pub later-kept : (i : ℕ) → length list / spotWidth * sizedWidth ≤ i → getD (after .buffer) i 0 ≡ getD out i 0
   unfolding joinOf
-  later-kept i h = joined-keeps _ s cols list out i h
+  later-kept i h = joined-keeps _ s list out i h
 
   -- ---- its refusals
 
   refused : (r : Refusal) → after .answer ≡ Refused r → firstOf checks ≡ Bad r
   unfolding joinOf
-  refused r e = answer-refused _ s cols list out r e
+  refused r e = answer-refused _ s list out r e
 
   -- a refusal that is answered is the first that holds, in the order of the checks: 1, 4, 5 for the length, 5 for a record, 6
   pub refused-first : (r : Refusal) → after .answer ≡ Refused r → First checks r
@@ -120,7 +120,7 @@ module _ (s : Set) (rows cols : ℕ) (list out : List ℕ) where
   -- a call that answers a count has no check that holds
   pub counted-none : (n : ℕ) → after .answer ≡ Count n → (k : ℕ) → saidAt checks k ≡ Fine
   unfolding joinOf
-  counted-none n e = order.first-fine checks (answer-counted _ s cols list out n e)
+  counted-none n e = order.first-fine checks (answer-counted _ s list out n e)
 
   -- and a call with no check that holds answers the record count
   pub none-counted : ((k : ℕ) → saidAt checks k ≡ Fine) → after .answer ≡ Count (length list / spotWidth)

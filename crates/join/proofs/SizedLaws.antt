@@ -1,6 +1,6 @@
--- Laws of a sized record's bytes, of sized records one after the other, and of a home pixel.
-use Prim.Native.Nat.{ℕ, zero, suc, _+_, _-_, _*_, _/_, _≤_, _<_, _^_}
-use native.Mathlib.Nat.{add-assoc, mul-zero, mod-lt, div-lt-iff-lt-mul, not-suc-le-zero}
+-- Laws of a sized record's bytes, and of sized records one after the other.
+use Prim.Native.Nat.{ℕ, zero, suc, _+_, _-_, _*_, _/_, _≤_, _<_}
+use native.Mathlib.Nat.{add-assoc}
 use native.Mathlib.Omega.{arith}
 use mathlib.Core.List.{List, [], _∷_, _++_}
 use mathlib.Core.Path.{_≡_, refl, ap, _∙_}
@@ -17,7 +17,7 @@ use Rattle.record.proofs.LayoutLaws.{length-recordBytes}
 use Rattle.size.specs.declared.Corrected.{Corrected}
 use Rattle.join.specs.declared.Home.{Home}
 use Rattle.join.specs.Sized.{sizedWidth, givenSigma, acceptedOf, sizeOf, homeOf, halfBytes, tailBytes, sizedBytes}
-use Rattle.join.specs.Join.{recordsFrom, recordsOf, sizedAll, laidSized, Fit}
+use Rattle.join.specs.Join.{recordsFrom, recordsOf, sizedAll, laidSized}
 
 -- ---- lengths
 
@@ -30,23 +30,23 @@ unfolding tailBytes halfBytes
 length-tailBytes size home =
     omega (arith, length-append (floatBytes (givenSigma size)) (halfBytes (home .row) ++ (halfBytes (home .col) ++ (acceptedOf size ∷ 0 ∷ 0 ∷ 0 ∷ []))), length-floatBytes (givenSigma size))
 
-pub length-sizedBytes : (s : Set) (cols : ℕ) (r : Record) → length (sizedBytes s cols r) ≡ sizedWidth
+pub length-sizedBytes : (s : Set) (r : Record) → length (sizedBytes s r) ≡ sizedWidth
 unfolding sizedBytes
-length-sizedBytes s cols r =
-    omega (arith, length-append (recordBytes r) (tailBytes (sizeOf s r) (homeOf cols (r .key))), length-recordBytes r, length-tailBytes (sizeOf s r) (homeOf cols (r .key)))
+length-sizedBytes s r =
+    omega (arith, length-append (recordBytes r) (tailBytes (sizeOf s r) (homeOf r)), length-recordBytes r, length-tailBytes (sizeOf s r) (homeOf r))
 
-length-sizedAll : (s : Set) (cols : ℕ) (rs : List Record) → length (sizedAll s cols rs) ≡ length rs * sizedWidth
+length-sizedAll : (s : Set) (rs : List Record) → length (sizedAll s rs) ≡ length rs * sizedWidth
 unfolding sizedAll
-length-sizedAll s cols [] = refl
-length-sizedAll s cols (r ∷ rs) = omega (arith, length-append (sizedBytes s cols r) (sizedAll s cols rs), length-sizedBytes s cols r, length-sizedAll s cols rs)
+length-sizedAll s [] = refl
+length-sizedAll s (r ∷ rs) = omega (arith, length-append (sizedBytes s r) (sizedAll s rs), length-sizedBytes s r, length-sizedAll s rs)
 
 length-recordsFrom : (b : List ℕ) (n i : ℕ) → length (recordsFrom b n i) ≡ n
 unfolding recordsFrom
 length-recordsFrom b zero i = refl
 length-recordsFrom b (suc n) i = ap suc (length-recordsFrom b n (suc i))
 
-pub length-all : (s : Set) (cols : ℕ) (b : List ℕ) → length (sizedAll s cols (recordsOf b)) ≡ length b / spotWidth * sizedWidth
-length-all s cols b = length-sizedAll s cols (recordsOf b) ∙ ap (λ (n : ℕ). n * sizedWidth) (length-recordsFrom b (length b / spotWidth) 0)
+pub length-all : (s : Set) (b : List ℕ) → length (sizedAll s (recordsOf b)) ≡ length b / spotWidth * sizedWidth
+length-all s b = length-sizedAll s (recordsOf b) ∙ ap (λ (n : ℕ). n * sizedWidth) (length-recordsFrom b (length b / spotWidth) 0)
 
 -- ---- stores
 
@@ -67,56 +67,43 @@ tail-parts a at size home sigma-is accepted-is b-is c-is d-is e-is =
     simp (sets-append, length-floatBytes, length-halfBytes, add-assoc) (rw (e-is, d-is, c-is, b-is, sigma-is, accepted-is))
 
 -- a record and its tail, stored one after the other
-pub sized-parts : {b c : List ℕ} {size : Corrected} {home : Home} (a : List ℕ) (at : ℕ) (s : Set) (cols : ℕ) (r : Record)
+pub sized-parts : {b c : List ℕ} {size : Corrected} {home : Home} (a : List ℕ) (at : ℕ) (s : Set) (r : Record)
     → size ≡ sizeOf s r
-    → home ≡ homeOf cols (r .key)
+    → home ≡ homeOf r
     → b ≡ sets a at (recordBytes r)
     → c ≡ sets b (at + spotWidth) (tailBytes size home)
-    → c ≡ sets a at (sizedBytes s cols r)
+    → c ≡ sets a at (sizedBytes s r)
 unfolding sizedBytes
-sized-parts a at s cols r size-is home-is b-is c-is = simp (sets-append, length-recordBytes) (rw (c-is, b-is, size-is, home-is))
+sized-parts a at s r size-is home-is b-is c-is = simp (sets-append, length-recordBytes) (rw (c-is, b-is, size-is, home-is))
 
 -- the i-th of n records stored, the rest follow it
-pub stored-next : {next : List ℕ} (s : Set) (cols : ℕ) (list out : List ℕ) (n i : ℕ) → i < n
-    → next ≡ sets out (i * sizedWidth) (sizedBytes s cols (recordAt list i))
-    → sets out (i * sizedWidth) (sizedAll s cols (recordsFrom list (n - i) i)) ≡ sets next ((i + 1) * sizedWidth) (sizedAll s cols (recordsFrom list (n - (i + 1)) (i + 1)))
+pub stored-next : {next : List ℕ} (s : Set) (list out : List ℕ) (n i : ℕ) → i < n
+    → next ≡ sets out (i * sizedWidth) (sizedBytes s (recordAt list i))
+    → sets out (i * sizedWidth) (sizedAll s (recordsFrom list (n - i) i)) ≡ sets next ((i + 1) * sizedWidth) (sizedAll s (recordsFrom list (n - (i + 1)) (i + 1)))
 unfolding sizedAll recordsFrom
-stored-next s cols list out n i h next-is =
+stored-next s list out n i h next-is =
     let left : n - i ≡ suc (n - (i + 1)) = omega arith in
     let one : i + 1 ≡ suc i = omega arith in
     let place : suc i * sizedWidth ≡ i * sizedWidth + sizedWidth = omega arith in
-    rw (left, one, next-is, place, sets-append (sizedBytes s cols (recordAt list i)), length-sizedBytes)
+    rw (left, one, next-is, place, sets-append (sizedBytes s (recordAt list i)), length-sizedBytes)
 
 -- all are left
-pub stored-start : (s : Set) (cols : ℕ) (list out : List ℕ) (n : ℕ)
-    → sets out 0 (sizedAll s cols (recordsFrom list n 0)) ≡ sets out (0 * sizedWidth) (sizedAll s cols (recordsFrom list (n - 0) 0))
-stored-start s cols list out n =
+pub stored-start : (s : Set) (list out : List ℕ) (n : ℕ)
+    → sets out 0 (sizedAll s (recordsFrom list n 0)) ≡ sets out (0 * sizedWidth) (sizedAll s (recordsFrom list (n - 0) 0))
+stored-start s list out n =
     let all : n - 0 ≡ n = omega arith in
     let place : 0 * sizedWidth ≡ 0 = omega arith in
     rw (all, place)
 
 -- none is left
-pub stored-end : (s : Set) (cols : ℕ) (list out : List ℕ) (n i : ℕ) → n ≤ i → sets out (i * sizedWidth) (sizedAll s cols (recordsFrom list (n - i) i)) ≡ out
+pub stored-end : (s : Set) (list out : List ℕ) (n i : ℕ) → n ≤ i → sets out (i * sizedWidth) (sizedAll s (recordsFrom list (n - i) i)) ≡ out
 unfolding sizedAll recordsFrom
-stored-end s cols list out n i h = let none : n - i ≡ 0 = omega arith in rw none
+stored-end s list out n i h = let none : n - i ≡ 0 = omega arith in rw none
 
 -- the buffer as a whole
-pub stored-laid : (s : Set) (cols : ℕ) (list out : List ℕ) → length list / spotWidth * sizedWidth ≤ length out → sets out 0 (sizedAll s cols (recordsOf list)) ≡ laidSized s cols list out
+pub stored-laid : (s : Set) (list out : List ℕ) → length list / spotWidth * sizedWidth ≤ length out → sets out 0 (sizedAll s (recordsOf list)) ≡ laidSized s list out
 unfolding laidSized
-stored-laid s cols list out h =
-    let sized : List ℕ = sizedAll s cols (recordsOf list) in
+stored-laid s list out h =
+    let sized : List ℕ = sizedAll s (recordsOf list) in
     let start : 0 + length sized ≡ length sized = omega arith in
-    sets-eq sized out 0 (omega (arith, length-all s cols list)) ∙ ap (λ (k : ℕ). sized ++ drop k out) start
-
--- ---- the home pixel of a record that fits
-
-pub some-cols : (rows cols k : ℕ) → k < rows * cols → 0 < cols
-some-cols rows zero k h = absurd (not-suc-le-zero (rw (mul-zero rows) at h))
-some-cols rows (suc c) k h = omega arith
-
-pub fit-home : {rows cols : ℕ} {r : Record} → Fit rows cols r → (homeOf cols (r .key) .row < 2 ^ 16) × (homeOf cols (r .key) .col < 2 ^ 16)
-unfolding homeOf
-fit-home {rows} {cols} {r} f =
-    let some : 0 < cols = some-cols rows cols (r .key) (f .key) in
-    let row : r .key / cols < rows = (div-lt-iff-lt-mul some) .1 (f .key) in
-    (omega (arith, row, f .rows-most), omega (arith, mod-lt (r .key) some, f .cols-most))
+    sets-eq sized out 0 (omega (arith, length-all s list)) ∙ ap (λ (k : ℕ). sized ++ drop k out) start

@@ -4,6 +4,8 @@ use mathlib.Core.Bool.{true, false}
 use mathlib.Core.List.{List}
 use mathlib.Core.Path.{_≡_}
 use lib.ListN.{length}
+use Rattle.whole.specs.Nearest.{Nearest}
+use Rattle.record.specs.declared.Record.{Record}
 use Rattle.record.specs.Layout.{spotWidth, recordAt}
 use Rattle.record.specs.Readable.{readable}
 
@@ -18,3 +20,8 @@ pub record FirstBad (rows cols : ℕ) (b : List ℕ) (i : ℕ) : Type 0 where
   pub inside : i < length b / spotWidth
   pub bad : readable rows cols (recordAt b i) ≡ false
   pub earlier : (k : ℕ) → k < i → readable rows cols (recordAt b k) ≡ true
+
+-- (row, col) is the pixel nearest to the record's y and x, a half going to the larger number
+pub record NearestPixel (r : Record) (row col : ℕ) : Type 0 where
+  pub to-y : Nearest (r .y) row
+  pub to-x : Nearest (r .x) col

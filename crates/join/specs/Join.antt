@@ -1,5 +1,5 @@
 -- What the join answers, and what it leaves in the buffer, as one value of its input. Definitions only.
-use Prim.Native.Nat.{ℕ, zero, suc, _*_, _/_, _%_, _≤_, _<_}
+use Prim.Native.Nat.{ℕ, zero, suc, _*_, _/_, _%_, _^_, _≤_, _<_}
 use mathlib.Core.Bool.{not, cond}
 use mathlib.Core.List.{List, [], _∷_, _++_}
 use lib.ListN.{length, drop}
@@ -12,7 +12,7 @@ use Rattle.tables.specs.Refusal.{Check, _when_, firstOf, sidesCheck, setCheck}
 use Rattle.record.specs.declared.Record.{Record}
 use Rattle.record.specs.Layout.{spotWidth, recordAt}
 use Rattle.record.specs.Readable.{readable}
-use Rattle.join.specs.Sized.{sizedWidth, sizedBytes}
+use Rattle.join.specs.Sized.{sizedWidth, homeOf, sizedBytes}
 use Rattle.join.specs.declared.Joined.{Joined}
 use Rattle.join.specs.declared.Joined.the-variants.{Count, Refused}
 
@@ -46,9 +46,9 @@ joinChecks s rows cols b room =
     ∷ []
 
 -- sized records, one after the other
-unfoldable pub sizedAll : Set → ℕ → List Record → List ℕ
-sizedAll s cols [] = []
-sizedAll s cols (r ∷ rs) = sizedBytes s cols r ++ sizedAll s cols rs
+unfoldable pub sizedAll : Set → List Record → List ℕ
+sizedAll s [] = []
+sizedAll s (r ∷ rs) = sizedBytes s r ++ sizedAll s rs
 
 -- an answer, and the whole buffer after it
 pub record Outcome : Type 0 where
@@ -60,20 +60,24 @@ abbrev pub outcome : Joined → List ℕ → Outcome
 outcome a b = record { answer = a; buffer = b }
 
 -- the sized records first, then the old bytes
-unfoldable pub laidSized : Set → ℕ → List ℕ → List ℕ → List ℕ
-laidSized s cols b out = let sized = sizedAll s cols (recordsOf b) in sized ++ drop (length sized) out
+unfoldable pub laidSized : Set → List ℕ → List ℕ → List ℕ
+laidSized s b out = let sized = sizedAll s (recordsOf b) in sized ++ drop (length sized) out
 
 -- a refusal writes nothing; otherwise the record count is answered, and the bytes past the sized records are kept
-unfoldable pub joined : Checked → Set → ℕ → List ℕ → List ℕ → Outcome
-joined (Bad r) s cols b out = outcome (Refused r) out
-joined Fine s cols b out = outcome (Count (length b / spotWidth)) (laidSized s cols b out)
+unfoldable pub joined : Checked → Set → List ℕ → List ℕ → Outcome
+joined (Bad r) s b out = outcome (Refused r) out
+joined Fine s b out = outcome (Count (length b / spotWidth)) (laidSized s b out)
 
 -- the whole of the join
 unfoldable pub joinOf : Set → ℕ → ℕ → List ℕ → List ℕ → Outcome
-joinOf s rows cols b out = joined (firstOf (joinChecks s rows cols b (length out))) s cols b out
+joinOf s rows cols b out = joined (firstOf (joinChecks s rows cols b (length out))) s b out
 
--- a record whose home pixel lies on a map of rows by cols, sides to 4,096
-pub record Fit (rows cols : ℕ) (r : Record) : Type 0 where
-  pub rows-most : rows ≤ 4096
-  pub cols-most : cols ≤ 4096
-  pub key : r .key < rows * cols
+-- a record whose home two bytes each hold
+pub record Placed (r : Record) : Type 0 where
+  pub row : homeOf r .row < 2 ^ 16
+  pub col : homeOf r .col < 2 ^ 16
+
+-- a list each of whose records is placed, and a buffer of that room holds them all sized
+pub record Writable (b : List ℕ) (room : ℕ) : Type 0 where
+  pub placed : (i : ℕ) → i < length b / spotWidth → Placed (recordAt b i)
+  pub enough : length b / spotWidth * sizedWidth ≤ room

@@ -1,4 +1,4 @@
--- A sized record: the spot's record, its size and its home pixel, as a function of the record, the set and cols. Definitions only.
+-- A sized record: the spot's record, its size and its home pixel, as a function of the record and the set alone. Definitions only.
 use Prim.Native.Nat.{ℕ, _/_, _%_}
 use mathlib.Core.List.{List, [], _∷_, _++_}
 use lib.Dec.{eqb}
@@ -8,6 +8,7 @@ use Rattle.tables.specs.declared.Set.{Set}
 use Rattle.record.specs.declared.Record.{Record}
 use Rattle.words.specs.Words.{floatBytes}
 use Rattle.record.specs.Layout.{recordBytes}
+use Rattle.whole.specs.Nearest.{nearestOf}
 use Rattle.size.specs.Correct.{correctedOf}
 use Rattle.size.specs.declared.Corrected.{Corrected}
 use Rattle.size.specs.declared.Corrected.the-variants.{Sigma, NoSize}
@@ -35,9 +36,9 @@ samplesIn r = r .s0 ∷ r .s1 ∷ r .s2 ∷ r .s3 ∷ []
 unfoldable pub sizeOf : Set → Record → Corrected
 sizeOf s r = correctedOf s (samplesIn r) (r .sigma) (eqb (r .polarity) 1)
 
--- the home pixel is the order key's own: key / cols and key % cols
-unfoldable pub homeOf : ℕ → ℕ → Home
-homeOf cols key = record { row = key / cols; col = key % cols }
+-- the home pixel is the one nearest to the record's own y and x, a half going to the larger number
+unfoldable pub homeOf : Record → Home
+homeOf r = record { row = nearestOf (r .y); col = nearestOf (r .x) }
 
 -- a u16's two bytes, the lower first
 unfoldable pub halfBytes : ℕ → List ℕ
@@ -48,5 +49,5 @@ unfoldable pub tailBytes : Corrected → Home → List ℕ
 tailBytes size home = floatBytes (givenSigma size) ++ (halfBytes (home .row) ++ (halfBytes (home .col) ++ (acceptedOf size ∷ 0 ∷ 0 ∷ 0 ∷ [])))
 
 -- its bytes
-unfoldable pub sizedBytes : Set → ℕ → Record → List ℕ
-sizedBytes s cols r = recordBytes r ++ tailBytes (sizeOf s r) (homeOf cols (r .key))
+unfoldable pub sizedBytes : Set → Record → List ℕ
+sizedBytes s r = recordBytes r ++ tailBytes (sizeOf s r) (homeOf r)

@@ -30,6 +30,6 @@ pub fn join(set: Set, rows: usize, cols: usize, list: &[u8], out: &mut [u8]) -> 
     let check = check::checked(set, rows, cols, list, out.len());
     match check {
         Checked::Bad(why) => Joined::Refused(why),
-        Checked::Fine => Joined::Count(sized::put_all(set, rows, cols, list, out)),
+        Checked::Fine => Joined::Count(sized::put_all(set, list, out)),
     }
 }

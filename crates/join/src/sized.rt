@@ -6,9 +6,7 @@ ghost use lib.ListN.{length};
 ghost use lib.Seq.{sets};
 ghost use Rattle.record.specs.Layout.{spotWidth};
 ghost use Rattle.join.specs.Sized.{sizedWidth, givenSigma, acceptedOf, halfBytes, tailBytes, homeOf, sizeOf, sizedBytes};
-ghost use Rattle.tables.specs.declared.Checked.the-variants.{Fine};
-ghost use Rattle.tables.specs.Refusal.{firstOf};
-ghost use Rattle.join.specs.Join.{recordsFrom, sizedAll, joinChecks, Fit};
+ghost use Rattle.join.specs.Join.{recordsFrom, sizedAll, Placed, Writable};
 use crate::Home;
 use crate::SIZED_WIDTH;
 use record::Record;
@@ -50,15 +48,13 @@ fn as_usize(v: u32) -> usize
     v as usize
 }
 
-// The home pixel, from the order key.
-fn home_of(cols: usize, key: u32) -> Home
-    requires { ⌜ 0 < cols ⌝ }
-    ensures { λ r. ⌜ r ≡ homeOf cols key ⌝ }
+// The home pixel: the one nearest to the record's y and x, a half going to the larger number.
+fn home_of(r: Record) -> Home
+    ensures { λ result. ⌜ result ≡ homeOf r ⌝ }
 {
-    let place = as_usize(key);
     Home {
-        row: place / cols,
-        col: place % cols,
+        row: as_usize(whole::nearest(r.y)),
+        col: as_usize(whole::nearest(r.x)),
     }
 }
 
@@ -85,22 +81,22 @@ fn put_tail(out: &mut [u8], at: usize, size: Corrected, home: Home)
 }
 
 // A sized record's bytes from the byte at on.
-fn put_sized(out: &mut [u8], at: usize, set: Set, rows: usize, cols: usize, r: Record)
+fn put_sized(out: &mut [u8], at: usize, set: Set, r: Record)
     requires { ⌜ at + sizedWidth ≤ length (now out) ⌝ }
-    requires { ⌜ Fit rows cols r ⌝ }
-    ensures { λ _. ⌜ now (out .exit) ≡ sets (now (out .entry)) at (sizedBytes set cols r) ⌝ }
+    requires { ⌜ Placed r ⌝ }
+    ensures { λ _. ⌜ now (out .exit) ≡ sets (now (out .entry)) at (sizedBytes set r) ⌝ }
 {
     record::put_record(out, at, r);
     let size = size_of(set, r);
-    let home = home_of(cols, r.key);
+    let home = home_of(r);
     put_tail(out, at + SPOT_WIDTH, size, home);
 }
 
 // All records of the list, sized, from the buffer's start on; answers how many.
-pub fn put_all(set: Set, rows: usize, cols: usize, list: &[u8], out: &mut [u8]) -> usize
-    requires { ⌜ firstOf (joinChecks set rows cols (now list) (length (now out))) ≡ Fine ⌝ }
+pub fn put_all(set: Set, list: &[u8], out: &mut [u8]) -> usize
+    requires { ⌜ Writable (now list) (length (now out)) ⌝ }
     ensures { λ r. ⌜ (r ≡ length (now (list .entry)) / spotWidth)
-        × (now (out .exit) ≡ sets (now (out .entry)) 0 (sizedAll set cols (recordsFrom (now (list .entry)) (length (now (list .entry)) / spotWidth) 0))) ⌝ }
+        × (now (out .exit) ≡ sets (now (out .entry)) 0 (sizedAll set (recordsFrom (now (list .entry)) (length (now (list .entry)) / spotWidth) 0))) ⌝ }
 {
     let count = list.len() / SPOT_WIDTH;
     let mut i: usize = 0;
@@ -109,8 +105,6 @@ pub fn put_all(set: Set, rows: usize, cols: usize, list: &[u8], out: &mut [u8]) 
             out,
             i * SIZED_WIDTH,
             set,
-            rows,
-            cols,
             record::record_from(list, i * SPOT_WIDTH),
         );
         i += 1;

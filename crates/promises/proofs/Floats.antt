@@ -14,6 +14,7 @@ use Rattle.float.proofs.is_finite as is-finite
 use Rattle.float.proofs.sqrt as sqrt
 use Rattle.float.proofs.log2 as log2
 use Rattle.float.proofs.exp as exp
+use Rattle.whole.proofs.nearest as nearest
 use Rattle.float_c.proofs.uramsheg_abs as uramsheg-abs
 use Rattle.float_c.proofs.uramsheg_min as uramsheg-min
 use Rattle.float_c.proofs.uramsheg_max as uramsheg-max
@@ -22,6 +23,7 @@ use Rattle.float_c.proofs.uramsheg_is_finite as uramsheg-is-finite
 use Rattle.float_c.proofs.uramsheg_sqrt as uramsheg-sqrt
 use Rattle.float_c.proofs.uramsheg_log2 as uramsheg-log2
 use Rattle.float_c.proofs.uramsheg_exp as uramsheg-exp
+use Rattle.float_c.proofs.uramsheg_nearest as uramsheg-nearest
 use Rattle.promises.specs.Settles.{Settles}
 use Rattle.promises.proofs.Facts.{one-answer}
 
@@ -52,6 +54,9 @@ module _ {M : Type 1} (𝓤 : URA M) (H : Heap 𝓤) (A : Atoms 𝓤) (mem : Mem
   pub exp-settled : Settles 𝓤 exp.ended (exp.clauses 𝓤 H A mem run)
   exp-settled κs a g g' r r' ws ws' = one-answer 𝓤 _
 
+  pub nearest-settled : Settles 𝓤 nearest.ended (nearest.clauses 𝓤 H A mem run)
+  nearest-settled κs a g g' r r' ws ws' = one-answer 𝓤 _
+
   -- ---- for C
 
   pub uramsheg-abs-settled : Settles 𝓤 uramsheg-abs.ended (uramsheg-abs.clauses 𝓤 H A mem run)
@@ -77,3 +82,6 @@ module _ {M : Type 1} (𝓤 : URA M) (H : Heap 𝓤) (A : Atoms 𝓤) (mem : Mem
 
   pub uramsheg-exp-settled : Settles 𝓤 uramsheg-exp.ended (uramsheg-exp.clauses 𝓤 H A mem run)
   uramsheg-exp-settled κs a g g' r r' ws ws' = one-answer 𝓤 _
+
+  pub uramsheg-nearest-settled : Settles 𝓤 uramsheg-nearest.ended (uramsheg-nearest.clauses 𝓤 H A mem run)
+  uramsheg-nearest-settled κs a g g' r r' ws ws' = one-answer 𝓤 _

@@ -3,6 +3,7 @@ use borrow.Author.Needs.{needs}
 use mathlib.Core.Path.{sym, _∙_}
 use Rattle.join.specs.Join.{joinOf, joined}
 use Rattle.join.proofs.CheckLaws.{checks-passed}
+use Rattle.join.proofs.HomeLaws.{passed-writable}
 use Rattle.join.proofs.SizedLaws.{stored-laid}
 use Rattle.join.proofs.join.Statement.{statement}
 use Rattle.join.proofs.join.Tie as tie
@@ -17,7 +18,8 @@ enum-told : tie.Need-enum-told
 enum-told c = search needs
 
 put-all-requires : tie.Need-put-all-requires
-put-all-requires c κs = sym (c .before .before .before .checked .ensures) ∙ c .before .enum-told .given .1
+put-all-requires c κs =
+    passed-writable _ _ _ _ _ (checks-passed _ _ _ _ _ (sym (c .before .before .before .checked .ensures) ∙ c .before .enum-told .given .1))
 
 returns : tie.Need-returns
 unfolding joinOf joined
@@ -31,7 +33,7 @@ unfolding joinOf joined
 returns-2 c =
     let fine = sym (c .before .before .before .before .before .before .checked .ensures) ∙ c .before .before .before .before .enum-told .given .1 in
     let put = c .before .before .put-all .ensures in
-    rw (fine, put .0, put .1, stored-laid _ _ _ _ (checks-passed _ _ _ _ _ fine .room-enough))
+    rw (fine, put .0, put .1, stored-laid _ _ _ (checks-passed _ _ _ _ _ fine .room-enough))
 
 pub join-spec : {M : Type 1} → statement M
 join-spec =

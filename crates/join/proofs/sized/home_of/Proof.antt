@@ -4,18 +4,21 @@ use Rattle.join.specs.Sized.{homeOf}
 use Rattle.join.proofs.sized.home_of.Statement.{statement}
 use Rattle.join.proofs.sized.home_of.Tie as tie
 
+nearest-requires : tie.Need-nearest-requires
+nearest-requires c κs = search needs
+
 as-usize-requires : tie.Need-as-usize-requires
 as-usize-requires c κs = search needs
 
-div-t4 : tie.Need-div-t4
-div-t4 c = search needs
+nearest-requires-2 : tie.Need-nearest-requires-2
+nearest-requires-2 c κs = search needs
 
-rem-t5 : tie.Need-rem-t5
-rem-t5 c = search needs
+as-usize-requires-2 : tie.Need-as-usize-requires-2
+as-usize-requires-2 c κs = search needs
 
 returns : tie.Need-returns
 unfolding homeOf
-returns c = rw (c .as-usize .ensures)
+returns c = cc
 
 pub home-of-spec : {M : Type 1} → statement M
-home-of-spec = tie.close (tie.spec as-usize-requires div-t4 rem-t5 returns)
+home-of-spec = tie.close (tie.spec nearest-requires as-usize-requires nearest-requires-2 as-usize-requires-2 returns)

@@ -1,7 +1,7 @@
 -- `sized::put_sized` meets its contract.
 use borrow.Author.Needs.{needs}
 use native.Mathlib.Omega.{arith}
-use Rattle.join.proofs.SizedLaws.{sized-parts, some-cols, fit-home}
+use Rattle.join.proofs.SizedLaws.{sized-parts}
 use Rattle.join.proofs.sized.put_sized.Statement.{statement}
 use Rattle.join.proofs.sized.put_sized.Tie as tie
 
@@ -12,13 +12,13 @@ size-of-requires : tie.Need-size-of-requires
 size-of-requires c κs = search needs
 
 home-of-requires : tie.Need-home-of-requires
-home-of-requires c κs = let e = c .before .before .before .before .before .before in some-cols (e .args .rows) _ _ (e .pre .1 .key)
+home-of-requires c κs = search needs
 
 add-put-tail : tie.Need-add-put-tail
 add-put-tail c = search needs
 
 put-tail-requires : tie.Need-put-tail-requires
-put-tail-requires c κs = (omega arith, rw (c .before .home-of .ensures) (fit-home (c .before .before .before .before .before .before .before .before .pre .1)))
+put-tail-requires c κs = (omega arith, rw (c .before .home-of .ensures) (let p = c .before .before .before .before .before .before .before .before .pre .1 in (p .row, p .col)))
 
 same-length : tie.Need-same-length
 same-length c = search needs
@@ -30,7 +30,7 @@ returns c =
     let size = home .before in
     let whole = size .before .before .before in
     let a = whole .before .before .before .args in
-    sized-parts _ (a .at) (a .set) (a .cols) (a .r) (size .size-of .ensures) (home .home-of .ensures) (whole .put-record .ensures) (tail .put-tail .ensures)
+    sized-parts _ (a .at) (a .set) (a .r) (size .size-of .ensures) (home .home-of .ensures) (whole .put-record .ensures) (tail .put-tail .ensures)
 
 pub put-sized-spec : {M : Type 1} → statement M
 put-sized-spec =

@@ -1,0 +1,2 @@
+pub mod NearestLaws
+mod Patterns
