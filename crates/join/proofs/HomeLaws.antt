@@ -1,14 +1,13 @@
 -- The home pixel: for each readable record it is the pixel nearest to the record's y and x and no other, it lies on the map, it is at most half a pixel off each way,
 -- and it comes from x and y alone. Assumes nothing.
-use Prim.Native.Nat.{ℕ, zero, suc, _+_, _-_, _*_, _/_, _^_, _≤_, _<_}
+use Prim.Native.Nat.{ℕ, zero, suc, _+_, _-_, _*_, _^_, _≤_, _<_}
 use native.Mathlib.Nat.{le-trans, le-of-eq, mul-one, mul-zero, zero-mul, mul-le-mul-right, not-suc-le-zero}
 use native.Mathlib.Omega.{arith}
-use mathlib.Core.Bool.{Bool, true, false, false≢true}
+use mathlib.Core.Bool.{Bool, true, false}
 use mathlib.Core.List.{List}
 use mathlib.Core.Path.{_≡_, sym, subst}
 use lib.IntN.{pos}
-use lib.Dec.{T, lit≤}
-use lib.ListN.{length}
+use lib.Dec.{T}
 use lib.Ieee.{Float, binary32, le, ofInt}
 use lib.Ieee.Exact.{HasValue}
 use lib.Ieee.Back.{round-whole}
@@ -21,7 +20,6 @@ use Rattle.whole.specs.Nearest.{Nearest, largest, nearestOf}
 use Rattle.whole.proofs.NearestLaws as near
 use Rattle.tables.specs.declared.Set.{Set}
 use Rattle.record.specs.declared.Record.{Record}
-use Rattle.record.specs.Layout.{spotWidth}
 use Rattle.record.specs.Readable.{within, onSide, readable, Readable}
 use Rattle.record.proofs.ReadableLaws.{readable-parts}
 use Rattle.join.specs.Sized.{homeOf}

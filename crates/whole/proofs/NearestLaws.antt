@@ -1,14 +1,12 @@
--- The whole number nearest to a float: it is the only one, it is at most half off, a half goes to the larger, and what lies outside a u32's range. Assumes nothing.
-use Prim.Native.Nat.{ℕ, _+_, _*_, _/_, _^_, _≤_, _<_}
-use native.Mathlib.Nat.{le-trans, le-of-eq, mul-le-mul-right, lt-of-mul-lt-mul-right, div-mul-le-self, lt-div-mul-add, div-eq-of-lt, div-eq-of-lt-le, zero-mul}
+-- The whole number nearest to a float: it is the only one, it is at most half off, a half goes to the larger, and the largest u32 stands for each value above it. Assumes nothing.
+use Prim.Native.Nat.{ℕ, _+_, _*_, _≤_, _<_}
+use native.Mathlib.Nat.{le-trans, lt-of-le-of-lt, mul-le-mul-right, lt-of-mul-lt-mul-right, div-mul-le-self, lt-div-mul-add, div-eq-of-lt-le}
 use native.Mathlib.Omega.{arith}
-use mathlib.Core.Bool.{Bool, true, false, cond, false≢true, true≢false}
+use mathlib.Core.Bool.{true, false, false≢true}
 use mathlib.Core.Path.{_≡_, refl, sym, ap, _∙_, subst}
-use lib.IntN.{ℤ}
-use lib.Dec.{T, ltb, lit≤}
-use lib.Ieee.{Float, nan, inf, fin, binary32, up, down, le, lt, ofBits}
+use lib.Dec.{T, lit≤}
+use lib.Ieee.{Float, nan, inf, fin, binary32, down, le, ofBits}
 use lib.Ieee.Fits.{down-pos}
-use lib.Ieee.Exact.{HasValue}
 use lib.Ieee.Nearest.{div-same}
 use lib.Ieee.Positive.{num, den, den-pos}
 use borrow.Author.Tests.{le-ltb, lt-ltb}
@@ -91,6 +89,13 @@ nearest-most x n f p l h = subst (λ (q : ℕ). q ≤ n) (sym (nearest-value x f
   where
     under : (d : ℕ) → n * d ≤ largest * d
     under d = mul-le-mul-right d l
+
+-- from half above the largest u32 on it is the largest
+pub nearest-over : (x : Float) → finite x ≡ true → T (le f0 x) → (2 * largest + 1) * den x ≤ 2 * num x → nearestOf x ≡ largest
+nearest-over x f p h = sized x f p ∙ saturated-over (nearestTo (num x) (den x)) (go (nearestTo (num x) (den x)) (to-high (num x) (den x) (den-pos x)))
+  where
+    go : (n : ℕ) → 2 * num x < (2 * n + 1) * den x → largest < n
+    go n less = let r : 2 * largest + 1 < 2 * n + 1 = lt-of-mul-lt-mul-right (den x) (lt-of-le-of-lt h less) in omega arith
 
 -- ---- worked values: 0, -0, the float just below 0.5, 0.5, 2.5, 4, 4.5, 4,095, the last below 2^32, 2^32, both infinities, -0.75 and NaN
 pub worked : (nearestOf (ofBits binary32 0x0000_0000) ≡ 0) × (nearestOf (ofBits binary32 0x8000_0000) ≡ 0) × (nearestOf (ofBits binary32 0x3eff_ffff) ≡ 0)

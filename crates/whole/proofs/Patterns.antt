@@ -1,20 +1,20 @@
 -- The nearest whole number from a bit pattern: the pattern's own definition gives the float's, and the code's shifts give the pattern's. Assumes nothing.
 use Prim.Native.Nat.{ℕ, _+_, _-_, _*_, _/_, _%_, _^_, _≤_, _<_}
-use native.Mathlib.Nat.{le-trans, le-of-eq, lt-of-le-of-lt, lt-of-lt-of-le, lt-of-mul-lt-mul-right, eq-or-lt-of-le, mul-assoc, mul-comm, mul-le-mul, mul-le-mul-right, mul-le-mul-left, mul-div-mul-right, pow-succ', mod-eq-of-lt}
+use native.Mathlib.Nat.{le-trans, lt-of-le-of-lt, lt-of-mul-lt-mul-right, eq-or-lt-of-le, mul-le-mul, mul-div-mul-right, mod-eq-of-lt}
 use native.Mathlib.Omega.{arith}
-use mathlib.Core.Bool.{Bool, true, false, not, cond, false≢true}
+use mathlib.Core.Bool.{Bool, true, false, not, false≢true}
 use mathlib.Core.Logic.{inl, inr}
 use mathlib.Core.Path.{_≡_, refl, sym, ap, _∙_, subst}
-use lib.Dec.{T, ltb, lit<, lit≤}
+use lib.Dec.{T, lit<, lit≤}
 use lib.Pow.{pow-add, pow-pos, pow-mono}
 use lib.Ieee.{Float, nan, inf, fin, binary32, up, down, isNan, fits, ofBits, toBits}
 use lib.Ieee.Exact.{HasValue}
-use lib.Ieee.Positive.{num, den, den-pos}
+use lib.Ieee.Positive.{den-pos}
 use borrow.Author.Tests.{lt-ltb, le-ltb}
 use Rattle.float.specs.Pattern.{unitsOf}
 use Rattle.float.proofs.Patterns.{units-mono, normal-units, plus-value, minus-value, Pattern, plus, minus, pattern}
 use Rattle.whole.specs.Nearest.{largest, saturated, nearestTo, nearestOf, nearestBits}
-use Rattle.whole.proofs.NearestLaws.{to-same, to-most, to-only, to-low, to-high, saturated-keeps, saturated-over}
+use Rattle.whole.proofs.NearestLaws.{to-same, to-only, to-high, saturated-keeps, saturated-over}
 
 -- ---- a value with no sign, and one with a sign
 of-plus : (x : Float) (a c : ℕ) → 0 < c → HasValue x false a c → nearestOf x ≡ saturated (nearestTo a c)
@@ -46,9 +46,12 @@ of-nan nan t = refl
 of-nan (inf s) t = absurd t
 of-nan (fin s m e) t = absurd t
 
-above : (m : ℕ) → nearestBits (2147483648 + m) ≡ 0
+pub over-bits : (b : ℕ) → 0x7f80_0000 < b → nearestBits b ≡ 0
 unfolding nearestBits
-above m = rw (lt-ltb 0x7f80_0000 (2147483648 + m) (omega arith))
+over-bits b h = rw (lt-ltb 0x7f80_0000 b h)
+
+above : (m : ℕ) → nearestBits (2147483648 + m) ≡ 0
+above m = over-bits (2147483648 + m) (omega arith)
 
 below : (m : ℕ) → m < 2139095040 → nearestBits m ≡ saturated (nearestTo (unitsOf m) (2 ^ 149))
 unfolding nearestBits

@@ -1,18 +1,14 @@
 -- `whole::half_up::near_bits` meets its contract. Assumes nothing.
 use borrow.Author.Needs.{needs}
 use mathlib.Core.Path.{_≡_, sym, ap, _∙_, subst}
-use Prim.Native.Nat.{ℕ, _+_, _-_, _*_, _/_, _%_, _^_, _≤_, _<_}
-use native.Mathlib.Nat.{mod-eq-of-lt}
+use Prim.Native.Nat.{ℕ, _+_, _/_, _^_, _<_}
 use native.Mathlib.Omega.{arith}
-use borrow.Author.Tests.{lt-ltb}
-use Rattle.whole.specs.Nearest.{nearestBits}
-use Rattle.whole.proofs.Patterns.{low-bits, high-bits, mid-bits, cut-lt, shifted, machine}
+use Rattle.whole.proofs.Patterns.{over-bits, low-bits, high-bits, mid-bits, cut-lt, shifted, machine}
 use Rattle.whole.proofs.half_up.near_bits.Statement.{statement}
 use Rattle.whole.proofs.half_up.near_bits.Tie as tie
 
 returns : tie.Need-returns
-unfolding nearestBits
-returns c = rw (lt-ltb _ _ (c .if1 .taken))
+returns c = sym (over-bits _ (c .if1 .taken))
 
 returns-2 : tie.Need-returns-2
 returns-2 c = sym (low-bits _ (c .if2 .taken))
