@@ -1,6 +1,7 @@
 //! The families of cases: each case made from its family, a seed and a number.
 
 use crate::case::{Case, Scene};
+use crate::homes;
 use crate::limits;
 use crate::maps;
 use crate::mirrored;
@@ -13,7 +14,7 @@ use crate::turning;
 use crate::words::{self, FUNCTIONS};
 
 /// The families of cases. `inner` counts through the inner functions.
-pub const FAMILIES: [&str; 21] = [
+pub const FAMILIES: [&str; 22] = [
     "list",
     "detect",
     "join",
@@ -35,6 +36,7 @@ pub const FAMILIES: [&str; 21] = [
     "widest",
     "blanks",
     "limits",
+    "homes",
 ];
 
 /// The case of a family with the given seed and number.
@@ -59,6 +61,7 @@ pub fn expand(family: &str, seed: u64, number: usize) -> Case {
         "widest" => widest(random),
         "blanks" => limits::blank(random, number),
         "limits" => limits::odd(random, number),
+        "homes" => homes::join(random, number),
         "overshoot" => overshoot::correction(random),
         "mirrored" => mirrored::correction(random),
         "cancelling" => rounding::cancelling(random),

@@ -3,6 +3,7 @@
 pub mod case;
 pub mod edges;
 pub mod families;
+pub mod homes;
 mod limits;
 pub mod maps;
 mod mirrored;

@@ -31,6 +31,11 @@ fn sound(random: &mut Random, sigmas: &[f32; 4], rows: usize, cols: usize) -> [u
         place(random, key % cols.max(1), cols),
         place(random, key / cols.max(1), rows),
     );
+    at(random, sigmas, key, x, y)
+}
+
+/// A record of this key and this place, the rest of it sound.
+pub fn at(random: &mut Random, sigmas: &[f32; 4], key: usize, x: f32, y: f32) -> [u8; SPOT] {
     let samples = samples(random);
     let sigma = match random.below(6) {
         0 => random.finite_pattern(),

@@ -2,12 +2,13 @@
 
 use crate::judged::Judge;
 use crate::search;
+use cases::homes::{KINDS, WALK};
 use cases::{Case, Knob, expand, turn};
 use subject::answer;
 use subject::stored::{Entry, Kept, Section};
 
 /// Cases of a family in a bounded run and in the stored list.
-pub const COUNTS: [(&str, usize); 20] = [
+pub const COUNTS: [(&str, usize); 21] = [
     ("list", 3000),
     ("detect", 1800),
     ("join", 1200),
@@ -28,6 +29,7 @@ pub const COUNTS: [(&str, usize); 20] = [
     ("inflected", 1200),
     ("blanks", 2 * 6 * 6 * 16),
     ("limits", 1200),
+    ("homes", WALK + 4 * KINDS * KINDS),
 ];
 
 /// Scenes and corrections that are searched for edges, with the tries at each.

@@ -264,11 +264,16 @@ fn the_list_program_refuses_in_its_order() {
     assert_eq!(judge::list_program(&[], true), b"refused 2\n");
 }
 
-#[test]
-fn the_join_refuses_in_its_order_and_sizes_p9() {
+/// Map M's one record.
+fn record_of_m() -> Vec<u8> {
     let line = judge::cases::all()[0].1.clone();
     let byte = |k: usize| u8::from_str_radix(&line[2 * k..2 * k + 2], 16).unwrap();
-    let record: Vec<u8> = (0..40).map(byte).collect();
+    (0..40).map(byte).collect()
+}
+
+#[test]
+fn the_join_refuses_in_its_order_and_sizes_p9() {
+    let record = record_of_m();
     let mut bad = Set::t();
     bad.numbers[10] = -1.0;
     let run = |set: &Set, rows, list: &[u8], room: usize| {
@@ -291,9 +296,36 @@ fn the_join_refuses_in_its_order_and_sizes_p9() {
     let (answer, out) = run(&Set::t(), 9, &record, 60);
     assert_eq!(
         (answer, &out[..40], &out[44..48]),
-        (Answer::Done(1), &record[..], &[4, 0, 4, 0][..])
+        (Answer::Done(1), &record[..], &[4, 0, 5, 0][..])
     );
     assert_eq!((&out[49..52], &out[52..]), (&[0; 3][..], &[9; 8][..]));
+}
+
+/// The home row and col of a record with another place in it, on the longest sides.
+fn home(record: &[u8], x: f32, y: f32) -> [u16; 2] {
+    let mut record = record.to_vec();
+    record[..4].copy_from_slice(&x.to_le_bytes());
+    record[4..8].copy_from_slice(&y.to_le_bytes());
+    let mut out = [9; 52];
+    let answer = judge::join(Logs::Steps, &Set::t(), 4096, 4096, &record, &mut out);
+    assert_eq!(answer, Answer::Done(1));
+    [44, 46].map(|at| u16::from_le_bytes([out[at], out[at + 1]]))
+}
+
+#[test]
+fn the_home_is_the_pixel_nearest_to_the_place_a_half_to_the_larger() {
+    let record = record_of_m();
+    let home = |x: f32, y: f32| home(&record, x, y);
+    for (place, nearest) in [(0.0, 0), (-0.0, 0), (1e-45, 0), (4095.0, 4095)] {
+        assert_eq!(home(place, 7.0), [7, nearest]);
+        assert_eq!(home(7.0, place), [nearest, 7]);
+    }
+    assert_eq!(home(f32::from_bits(0x3eff_ffff), 4.5), [5, 0]);
+    for n in 0..4095u16 {
+        let half = f32::from(n) + 0.5;
+        assert_eq!(home(half, half.next_down()), [n, n + 1]);
+        assert_eq!(home(half.next_down(), half.next_up()), [n + 1, n]);
+    }
 }
 
 #[test]

@@ -93,16 +93,20 @@ fn join_refusal(set: &Set, rows: usize, cols: usize, list: &[u8], out: &[u8]) ->
     (out.len() < whole * SIZED).then_some(refused(6))
 }
 
+/// The whole number nearest to a place on the map, a half to the larger. Below 1 the f64 sum may be rounded, but never up to 1.
+fn nearest(place: f32) -> u16 {
+    (f64::from(place) + 0.5).floor() as u16
+}
+
 /// The spot record, its corrected sigma, its home pixel and whether a size was given.
-fn sized(cols: usize, spot: &[u8]) -> [u8; SIZED] {
-    let [_, _, sigma, _, samples @ ..] = record::floats(spot);
+fn sized(spot: &[u8]) -> [u8; SIZED] {
+    let [x, y, sigma, _, samples @ ..] = record::floats(spot);
     let size = offered::correct(&samples, sigma, record::is_max(spot));
-    let key = record::key(spot);
     let mut bytes = [0; SIZED];
     bytes[..SPOT].copy_from_slice(spot);
     bytes[SPOT..SPOT + 4].copy_from_slice(&size.unwrap_or(0.0).to_le_bytes());
-    bytes[44..46].copy_from_slice(&((key / cols) as u16).to_le_bytes());
-    bytes[46..48].copy_from_slice(&((key % cols) as u16).to_le_bytes());
+    bytes[44..46].copy_from_slice(&nearest(y).to_le_bytes());
+    bytes[46..48].copy_from_slice(&nearest(x).to_le_bytes());
     bytes[48] = size.is_some() as u8;
     bytes
 }
@@ -121,7 +125,7 @@ pub fn join(
     }
     with(Rules::Document, logs, set, || {
         for (bytes, spot) in out.chunks_exact_mut(SIZED).zip(list.chunks_exact(SPOT)) {
-            bytes.copy_from_slice(&sized(cols, spot));
+            bytes.copy_from_slice(&sized(spot));
         }
     });
     Answer::Done(list.len() / SPOT)
