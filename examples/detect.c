@@ -64,9 +64,9 @@ int main(void) {
         const uint8_t *spot = sized + URAMSHEG_SIZED_BYTES * i;
         unsigned row = spot[44] + 256u * spot[45], col = spot[46] + 256u * spot[47];
         if (spot[48])
-            printf("spot %" PRIu64 " of pixel (%u, %u): size %g\n", i, row, col, get(spot, 10));
+            printf("spot %" PRIu64 ", home pixel (%u, %u): size %g\n", i, row, col, get(spot, 10));
         else
-            printf("spot %" PRIu64 " of pixel (%u, %u): no size\n", i, row, col);
+            printf("spot %" PRIu64 ", home pixel (%u, %u): no size\n", i, row, col);
     }
     return 0;
 }

@@ -18,12 +18,13 @@
  * and the last byte 0. Detection writes no bad record.
  *
  * A sized record (52 bytes, little-endian): the spot record; 40 corrected sigma f32 (+0.0 where the spot has no size); 44 home row u16, 46 home col u16
- * (the spot's own pixel); 48 accepted (1 where there is a size, else 0); 49 50 51 zero
+ * (the pixel nearest to y and x, a half to the larger); 48 accepted (1 where there is a size, else 0); 49 50 51 zero
+ * Detection moves a spot by at most 0.6 of a pixel each way, so that its home pixel is its own or one beside it.
  *
  * A worked case, map M: under the set that examples/detect.c builds, 9 rows by 10 cols, all 0 but pixel (4,4), 0.25 in level 0 and -0.25 in level 1,
  * thresholds 1, 1, 10, window 1.9027314 to 4.1498866, octave 0, the list is the one record
  *   00009040000080400000004000008040000080bf0000804000000000000000002c00000000010100
- * examples/detect.c prints it with its size.
+ * examples/detect.c prints it with its home pixel, (4,5), and its size.
  */
 #ifndef URAMSHEG_H
 #define URAMSHEG_H
@@ -64,7 +65,7 @@ uint32_t uramsheg_detect(const uint8_t *set, size_t set_length,
                          uint8_t *out, size_t out_length, uint64_t *value);
 
 /* Sizes the records of a list that was found on a map of rows by cols: a sized record for each, in the list's order, in `out`.
- * A size comes from the four samples, the sigma and the polarity in the spot's own record, and from nothing else.
+ * A size comes from the four samples, the sigma and the polarity in the spot's own record, and from nothing else; a home pixel from its y and x alone.
  * Answers 0 and the number of records in *value; bytes of `out` past the sized records are kept.
  * Refused (checked in the order 1, 4, 5 for the list's length, 5 for a record, 6), it answers the number and leaves `out` untouched; *value is 0, but
  * for 5: then it is the number of whole records where the list's length is no multiple of 40, else the index of the first bad record. The records of

@@ -8,6 +8,7 @@
 #define URAMSHEG_FLOAT_H
 
 #include <stdbool.h>
+#include <stdint.h>
 
 #ifdef __cplusplus
 extern "C" {
@@ -35,6 +36,9 @@ float uramsheg_log2(float x);
 
 /* NaN gives NaN, either zero 1, 89 and above +infinity, -104 and below +0. Never negative. */
 float uramsheg_exp(float x);
+
+/* The whole number nearest to x, a half to the larger: 0.5 gives 1, 4.5 gives 5. NaN and all below 0 give 0, all from 2^32 on 4294967295. */
+uint32_t uramsheg_nearest(float x);
 
 #ifdef __cplusplus
 }

@@ -31,6 +31,31 @@ static void expect(const char *name, float got, float want) {
     }
 }
 
+static void expect_whole(const char *name, uint32_t got, uint32_t want) {
+    if (got == want) {
+        printf("ok C %s\n", name);
+    } else {
+        printf("FAILED C %s: got %" PRIu32 ", want %" PRIu32 "\n", name, got, want);
+        failures++;
+    }
+}
+
+static void nearest(void) {
+    expect_whole("nearest 0", uramsheg_nearest(0.0f), 0);
+    expect_whole("nearest -0", uramsheg_nearest(-0.0f), 0);
+    expect_whole("nearest just below 0.5", uramsheg_nearest(of_bits(0x3effffff)), 0);
+    expect_whole("nearest 0.5", uramsheg_nearest(0.5f), 1);
+    expect_whole("nearest 4.5", uramsheg_nearest(4.5f), 5);
+    expect_whole("nearest 5.5", uramsheg_nearest(5.5f), 6);
+    expect_whole("nearest just below 4094.5", uramsheg_nearest(nextafterf(4094.5f, 0)), 4094);
+    expect_whole("nearest -1", uramsheg_nearest(-1.0f), 0);
+    expect_whole("nearest the last below 2^32", uramsheg_nearest(4294967040.0f), 4294967040u);
+    expect_whole("nearest 2^32", uramsheg_nearest(4294967296.0f), UINT32_MAX);
+    expect_whole("nearest infinity", uramsheg_nearest(INFINITY), UINT32_MAX);
+    expect_whole("nearest -infinity", uramsheg_nearest(-INFINITY), 0);
+    expect_whole("nearest NaN", uramsheg_nearest(NAN), 0);
+}
+
 int main(void) {
     const float inf = INFINITY, tiny = of_bits(1), most = of_bits(0x7f7fffff);
 
@@ -78,5 +103,6 @@ int main(void) {
     expect("exp infinity", uramsheg_exp(inf), inf);
     expect("exp -infinity", uramsheg_exp(-inf), 0.0f);
     expect("exp NaN", uramsheg_exp(NAN), NAN);
+    nearest();
     return failures != 0;
 }

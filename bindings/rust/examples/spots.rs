@@ -1,4 +1,5 @@
-//! Reads what the list program reads (set, thresholds, sides, octave, four levels) from standard input and prints the spots with their sizes.
+//! Reads what the list program reads (set, thresholds, sides, octave, four levels) from standard input and prints the spots with their
+//! home pixels and sizes.
 
 use std::io::Read;
 use uramsheg::{Map, Thresholds};
@@ -44,8 +45,8 @@ fn main() -> Result<(), Box<dyn std::error::Error>> {
             .size
             .map_or("no size".into(), |size| format!("size {size}"));
         println!(
-            "{kind} of pixel ({}, {}) at x {}, y {}: sigma {}, peak {}, {size}",
-            sized.row, sized.col, spot.x, spot.y, spot.sigma, spot.peak
+            "{kind} at x {}, y {}, home pixel ({}, {}): sigma {}, peak {}, {size}",
+            spot.x, spot.y, sized.row, sized.col, spot.sigma, spot.peak
         );
     }
     Ok(())

@@ -147,7 +147,8 @@ pub fn detect(
     done(number, value as usize, value as usize).map_err(|refusal| thresholds.told(refusal))
 }
 
-/// Sizes the records of a list found on a map of rows by cols, 52 bytes each, in the list's order. Answers their number. Later bytes are kept.
+/// Sizes the records of a list found on a map of rows by cols, 52 bytes each, in the list's order, and gives each its home pixel, the one nearest to its
+/// place, a half to the larger. Answers their number. Later bytes are kept.
 pub fn join(
     set: &[u8],
     rows: usize,
@@ -251,7 +252,7 @@ pub fn spots(set: &[u8], thresholds: Thresholds, map: Map<'_>) -> Result<Vec<Spo
     Ok(bytes.as_chunks().0.iter().map(Spot::from_record).collect())
 }
 
-/// The map's spots, each with its size and its home pixel.
+/// The map's spots, each with its size and its home pixel, the one nearest to its place.
 pub fn sized_spots(
     set: &[u8],
     thresholds: Thresholds,

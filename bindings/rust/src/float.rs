@@ -10,11 +10,13 @@ mod raw {
         pub safe fn uramsheg_sqrt(x: f32) -> f32;
         pub safe fn uramsheg_log2(x: f32) -> f32;
         pub safe fn uramsheg_exp(x: f32) -> f32;
+        pub safe fn uramsheg_nearest(x: f32) -> u32;
     }
 }
 
 macro_rules! of_archive {
-    ($($name:ident, $raw:ident, ($($arg:ident),*), $result:ty;)*) => {$(
+    ($($(#[$about:meta])* $name:ident, $raw:ident, ($($arg:ident),*), $result:ty;)*) => {$(
+        $(#[$about])*
         #[inline]
         pub fn $name($($arg: f32),*) -> $result {
             raw::$raw($($arg),*)
@@ -31,4 +33,6 @@ of_archive! {
     sqrt, uramsheg_sqrt, (x), f32;
     log2, uramsheg_log2, (x), f32;
     exp, uramsheg_exp, (x), f32;
+    /// The whole number nearest to x, a half to the larger; 0 for NaN and below 0, `u32::MAX` from 2^32 on.
+    nearest, uramsheg_nearest, (x), u32;
 }

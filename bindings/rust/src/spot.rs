@@ -14,7 +14,7 @@ pub struct Spot {
     pub peak: f32,
     /// The four centre samples, from which its size comes.
     pub samples: [f32; 4],
-    /// row * cols + col of its own pixel.
+    /// row * cols + col of its own pixel, from which it may have moved by 0.6 of a pixel.
     pub key: u32,
     pub octave: u8,
     pub scale_index: u8,
@@ -27,6 +27,7 @@ pub struct SizedSpot {
     pub spot: Spot,
     /// The corrected sigma; None where the spot has no size.
     pub size: Option<f32>,
+    /// The home pixel: the row nearest to y and the col nearest to x, a half to the larger.
     pub row: u16,
     pub col: u16,
 }

@@ -212,10 +212,41 @@ fn the_join_sizes_each_record_by_itself() {
         row,
         col,
     } = sized[0];
-    assert_eq!((sized.len(), row, col), (1, 4, 4));
+    assert_eq!((sized.len(), row, col), (1, 4, 5));
     let corrected = uramsheg::correct(&set_t(), spot.samples, spot.sigma, spot.is_max);
     assert_eq!(size, corrected.ok());
     assert!(size.is_some());
+}
+
+/// The home row and col that the join gives map M's record with another place in it, on the longest sides.
+fn home(x: f32, y: f32) -> (u16, u16) {
+    let byte = |place: usize| u8::from_str_radix(&RECORD_OF_M[2 * place..2 * place + 2], 16);
+    let mut record: [u8; SPOT_BYTES] = core::array::from_fn(|place| byte(place).unwrap());
+    record[..4].copy_from_slice(&x.to_le_bytes());
+    record[4..8].copy_from_slice(&y.to_le_bytes());
+    let mut out = [0; SIZED_BYTES];
+    let answer = uramsheg::join(&set_t(), 4096, 4096, &record, &mut out);
+    assert_eq!(answer, Ok(1), "at x {x}, y {y}");
+    let sized = SizedSpot::from_record(&out);
+    assert_eq!(
+        (sized.spot, sized.spot.key),
+        (Spot::from_record(&record), 44)
+    );
+    (sized.row, sized.col)
+}
+
+#[test]
+fn the_home_is_the_pixel_nearest_to_the_place_a_half_to_the_larger() {
+    assert_eq!(home(4.5, 4.0), (4, 5));
+    assert_eq!(home(f32::from_bits(0x3eff_ffff), -0.0), (0, 0));
+    assert_eq!(home(-0.0, f32::from_bits(0x3eff_ffff)), (0, 0));
+    assert_eq!(home(4095.0, 4094.5), (4095, 4095));
+    for n in 0..4095u16 {
+        let half = f32::from(n) + 0.5;
+        assert_eq!(home(half, half.next_down()), (n, n + 1));
+        assert_eq!(home(half.next_down(), half), (n + 1, n));
+        assert_eq!(home(f32::from(n), half.next_up()), (n + 1, n));
+    }
 }
 
 #[test]

@@ -78,6 +78,19 @@ fn exp_special(x: f32) -> f32 {
     }
 }
 
+/// The whole n with 2n - 1 <= 2x < 2n + 1, from 0 to u32's end: by the cast, which drops the fraction, and what is left.
+fn nearest_special(x: f32) -> u32 {
+    let whole = x as u32;
+    whole.saturating_add((x as f64 - whole as f64 >= 0.5) as u32)
+}
+
+fn nearest() -> bool {
+    let halves = (0..=32).flat_map(|power| [0.0, 0.5, 1.5, 2.5].map(|more| (1u64 << power) as f32 + more)).chain([0.5, 1.5, 4.5]);
+    let places = halves.flat_map(|half| [half, half.next_down(), half.next_up()]).chain(special());
+    let wrong = places.into_iter().find(|&x| ours::nearest(x) != nearest_special(x));
+    tell("nearest", wrong.map(|x| format!("at {:08x} got {}, want {}", x.to_bits(), ours::nearest(x), nearest_special(x))))
+}
+
 fn main() {
     let mut wrong = false;
     wrong |= one("abs", ours::abs, f32::abs);
@@ -91,6 +104,9 @@ fn main() {
         let name = format!("clamp of {:08x}", x.to_bits());
         wrong |= two(&name, |low, high| ours::clamp(x, low, high), |low, high| clamped(x, low, high));
     }
+    wrong |= nearest();
+    wrong |= tell("nearest 4.5 is 5", (ours::nearest(4.5) != 5).then(String::new));
+    wrong |= tell("nearest of the float below 0.5 is 0", (ours::nearest(f32::from_bits(0x3eff_ffff)) != 0).then(String::new));
     wrong |= tell("sqrt 2.25 is 1.5", (ours::sqrt(2.25) != 1.5).then(String::new));
     wrong |= tell("log2 8 is 3", (ours::log2(8.0) != 3.0).then(String::new));
     wrong |= tell("log2 2^-149 is -149", (ours::log2(f32::from_bits(1)) != -149.0).then(String::new));

@@ -1,4 +1,4 @@
-//! Walks every f32 pattern: sqrt against the machine's own root, log2 and exp against an independent f64 and document 01's ranges.
+//! Walks every f32 pattern: sqrt against the machine's own root, log2 and exp against an independent f64 and document 01's ranges, nearest against f64.
 //! `walk N` takes only every N-th pattern. It prints the worst value of each function and where.
 use uramsheg::float as ours;
 use uramsheg_float_tests::same;
@@ -30,7 +30,7 @@ struct Seen {
     wrong: [Option<u32>; CLAIMS.len()],
 }
 
-const CLAIMS: [&str; 7] = [
+const CLAIMS: [&str; 8] = [
     "sqrt equals the machine's root at every pattern",
     "log2 at NaN, below 0, at the zeros and at infinity",
     "log2 exact on powers of two, from e to e+1 between them",
@@ -38,6 +38,7 @@ const CLAIMS: [&str; 7] = [
     "exp at NaN, at the zeros, from 89 on and to -104",
     "exp never negative, NaN only at NaN",
     "exp on -8 to 8 within one part in 2^20",
+    "nearest equals the f64 x + 0.5 rounded down, 0 for NaN, at every pattern",
 ];
 
 /// The exponent e with 2^e <= x < 2^(e+1), for a positive finite x.
@@ -74,6 +75,11 @@ fn exp_special(x: f32, r: f32) -> bool {
     }
 }
 
+/// The f64 sum is exact from 2^-30 to 2^51 in size; a smaller x leaves it next to 0.5, and a larger one is beyond u32 by itself. The cast keeps to u32.
+fn nearest(x: f32) -> u32 {
+    (x as f64 + 0.5).floor() as u32
+}
+
 fn look(pattern: u32, seen: &mut Seen) {
     let x = f32::from_bits(pattern);
     let mut claim = |index: usize, holds: bool| {
@@ -90,6 +96,7 @@ fn look(pattern: u32, seen: &mut Seen) {
     let exp = ours::exp(x);
     claim(4, exp_special(x, exp));
     claim(5, if x.is_nan() { exp.is_nan() } else { !exp.is_nan() && exp.is_sign_positive() });
+    claim(7, ours::nearest(x) == nearest(x));
     if (0.25..=16.0).contains(&x) {
         let error = (log2 as f64 - (x as f64).log2()).abs() * (1 << 20) as f64;
         claim(3, error <= 1.0);
