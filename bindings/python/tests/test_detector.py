@@ -1,4 +1,7 @@
 """Every function against the C face, byte for byte."""
+import math
+from fractions import Fraction
+
 import cface
 import numpy as np
 import odd
@@ -28,8 +31,42 @@ def test_map_m(m):
     assert spots.tobytes() == m.line
     (sized,) = u.join(spots, m.set, m.shape)
     assert (sized["x"], sized["y"], sized["sigma"], sized["peak"], sized["key"]) == (4.5, 4, 2, 4, 44)
-    assert (sized["row"], sized["col"], sized["accepted"], sized["is_max"]) == (4, 4, True, True)
+    assert (sized["row"], sized["col"], sized["accepted"], sized["is_max"]) == (4, 5, True, True)
     assert f"{sized['size']:.6f}" == "2.828427"
+
+
+def homes(*places):
+    """The home rows and cols of records at these x and y, on the longest sides; the records are handed over as bytes too."""
+    spots = np.zeros(len(places), u.SPOT)
+    spots["x"], spots["y"] = np.array(places, "f4").T
+    spots["scale_index"] = 1
+    sized = u.join(spots, T, (4096, 4096))
+    assert sized.tobytes() == u.join(spots.tobytes(), T, (4096, 4096)).tobytes()
+    assert all(sized[name].tobytes() == spots[name].tobytes() for name in u.SPOT.names)
+    return list(zip(sized["row"].tolist(), sized["col"].tolist()))
+
+
+BELOW_A_HALF = float(np.nextafter(np.float32(0.5), np.float32(0)))
+
+
+def test_homes_of_halves():
+    assert homes((4.5, 4), (4, 4.5), (5.5, 0.5), (1.5, 2.5), (4094.5, 4095)) == [(4, 5), (5, 4), (1, 6), (3, 2), (4095, 4095)]
+    assert homes((BELOW_A_HALF, 7), (7, BELOW_A_HALF), (-0.0, -0.0)) == [(7, 0), (0, 7), (0, 0)]
+
+
+def beside(n, step):
+    """n + 0.5, or the float below or above it."""
+    half = np.float32(n + 0.5)
+    return float(np.nextafter(half, half + np.float32(step)))
+
+
+PLACES = st.one_of(st.floats(0, 4095, width=32), st.builds(beside, st.integers(0, 4094), st.integers(-1, 1)), st.sampled_from([-0.0, BELOW_A_HALF, 4095.0]))
+
+
+@given(st.lists(st.tuples(PLACES, PLACES), min_size=1, max_size=9))
+def test_the_home_is_the_pixel_nearest_to_the_place(places):
+    exact = lambda place: math.floor(Fraction(place) + Fraction(1, 2))
+    assert homes(*places) == [(exact(y), exact(x)) for x, y in places]
 
 
 @pytest.mark.parametrize("name", ["list_p10", "list_p11"])

@@ -23,6 +23,17 @@ def test_one_row_says_all():
     assert spot["bright"] and not spot["near_lost"] and spot["octave"] == 0 and (spot["row"], spot["col"]) == (33, 40)
 
 
+@pytest.mark.parametrize("octave", [0, 1, 2])
+def test_row_and_col_are_the_map_s_pixel_nearest_to_the_place(octave):
+    side = 150 * 2**octave
+    spots = u.find(np.random.default_rng(octave).normal(size=(side, side + 7)), peak=1e-3, kind="both", octaves=[octave]).spots
+    for place, side in (("y", "row"), ("x", "col")):
+        assert np.all(2 * spots[side] - 1 <= 2 * spots[place]) and np.all(2 * spots[place] < 2 * spots[side] + 1)
+    row, col = np.divmod(spots["key"], 2**32)
+    assert not (row % 2**octave).any() and not (col % 2**octave).any() and max(abs(spots["y"] - row).max(), abs(spots["x"] - col).max()) < 0.601 * 2**octave
+    assert np.any(spots["row"] != row) and np.any(spots["col"] != col)
+
+
 @settings(max_examples=60)
 @given(st.floats(1.95, 3.7), st.floats(-0.45, 0.45), st.floats(-0.45, 0.45), st.floats(1e-12, 1e12), st.booleans(), st.integers(0, 1))
 def test_one_gaussian_of_any_height(size, right, down, height, dark, octave):

@@ -15,12 +15,23 @@ MAPS = [levels.build(np.random.default_rng(seed).normal(size=shape), TABLES) for
 def test_tiles_list_what_the_whole_map_lists(four, side):
     cols = four[0].shape[1]
     whole = u.join(u.detect(four, TABLES, (0.02,)), TABLES, four[0].shape)
-    records, corners = scene.listed(four, TABLES, (0.02,), side=side)
-    row, col = records["row"] + corners[:, 0], records["col"] + corners[:, 1]
+    records, corners, pixels = scene.listed(four, TABLES, (0.02,), side=side)
+    row, col = pixels.T
+    assert abs(records["y"] + corners[:, 0] - row).max() < 0.601 and abs(records["x"] + corners[:, 1] - col).max() < 0.601
     records = records[np.lexsort((records["is_max"], col, row))]
     assert len(whole) > 0 and np.array_equal(np.sort(row * cols + col), whole["key"])
     for name in ("sigma", "peak", "samples", "octave", "scale_index", "is_max", "size", "accepted"):
         assert records[name].tobytes() == whole[name].tobytes()
+
+
+def test_a_spot_that_moved_over_the_border_has_another_home_than_its_key():
+    four = levels.build(np.random.default_rng(4).normal(size=(500, 520)), TABLES)
+    sized = u.join(u.detect(four, TABLES, (0.001,)), TABLES, four[0].shape)
+    own = np.divmod(sized["key"].astype(int), four[0].shape[1])
+    away = [sized[side].astype(int) - pixel for side, pixel in zip(("row", "col"), own)]
+    moved = [sized[place].astype(float) - pixel for place, pixel in zip("yx", own)]
+    assert all(np.array_equal(steps, (move >= 0.5).astype(int) - (move < -0.5)) for steps, move in zip(away, moved))
+    assert all(set(steps) == {-1, 0, 1} for steps in away)
 
 
 @given(st.integers(0, 400), st.integers(9, 90))

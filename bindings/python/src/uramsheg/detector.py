@@ -56,10 +56,11 @@ def slice_of(array, shape):
 
 
 def join(spots, tables, shape, *, out=None):
-    """Each spot with its size and its own pixel, an array of SIZED in the list's order.
+    """Each spot with its size and its home pixel, an array of SIZED in the list's order.
 
     `spots` is what `detect` answers, or the bytes of such records; `shape` is the levels' rows and cols. A size comes from the four samples, the
-    sigma and the polarity in the spot's own record. `out`, a contiguous array of SIZED, is written to where it is given, and its first records are
+    sigma and the polarity in the spot's own record. `row` and `col` are the pixel nearest to y and x, a half to the larger; the one that the spot was
+    found at is key // cols, key % cols. `out`, a contiguous array of SIZED, is written to where it is given, and its first records are
     answered.
     """
     record = record_of(tables)

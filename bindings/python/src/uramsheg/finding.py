@@ -8,7 +8,8 @@ from .detector import Thresholds, octave_count, read_set
 from .grid import Grid
 from .tables import standard
 
-#: a spot of a map: x, y, size and sigma in the map's pixels, 0 at the first pixel's centre; size is NaN where there is none
+#: a spot of a map: x, y, size and sigma in the map's pixels, 0 at the first pixel's centre; size is NaN where there is none; row and col are the map's
+#: pixel nearest to y and x, a half to the larger; key orders spots by the pixel that they were found at
 FOUND = np.dtype([
     ("x", "f8"), ("y", "f8"), ("map_x", "f8"), ("map_y", "f8"), ("size", "f8"), ("size_m", "f8"), ("height", "f8"), ("snr", "f8"),
     ("bright", "?"), ("near_lost", "?"), ("octave", "u1"), ("sigma", "f8"), ("peak", "f8"), ("row", "i4"), ("col", "i4"), ("key", "i8"),
@@ -150,14 +151,14 @@ def pyramid(base, tables, octaves):
         base = scene.halved(four[2])
 
 
-def rows_of(records, corners, octave, unit):
+def rows_of(records, corners, pixels, octave, unit):
     """Rows of the table, in the map's pixels and unit, of the records that one octave lists."""
     spots = np.zeros(len(records), FOUND)
     step = 2**octave
     top, left = corners.T
     spots["x"], spots["y"] = (records["x"] + left.astype(float)) * step, (records["y"] + top.astype(float)) * step
-    spots["row"], spots["col"] = (records["row"] + top) * step, (records["col"] + left) * step
-    spots["key"] = spots["row"].astype("i8") * 2**32 + spots["col"]
+    spots["row"], spots["col"] = np.floor(spots["y"] + 0.5), np.floor(spots["x"] + 0.5)
+    spots["key"] = pixels @ np.array([2**32, 1]) * step
     spots["sigma"] = records["sigma"].astype(float) * step
     spots["size"] = np.where(records["accepted"], records["size"].astype(float) * step, np.nan)
     spots["peak"] = records["peak"].astype(float) * unit

@@ -15,13 +15,13 @@ SET = np.dtype([
     *((name, "<f4") for name in NUMBERS), ("order", "u1", (9,)), ("spare", "u1", (3,)),
 ])
 
-#: a spot as detection lists it; `key` is row * cols + col of its own pixel
+#: a spot as detection lists it; `key` is row * cols + col of its own pixel, from which x and y may be 0.6 of a pixel off
 SPOT = np.dtype([
     ("x", "<f4"), ("y", "<f4"), ("sigma", "<f4"), ("peak", "<f4"), ("samples", "<f4", (4,)), ("key", "<u4"),
     ("octave", "u1"), ("scale_index", "u1"), ("is_max", "?"), ("spare", "u1"),
 ])
 
-#: a spot with its size (0 where it has none: `accepted` is then false) and its own pixel
+#: a spot with its size (0 where it has none: `accepted` is then false) and its home pixel: `row` and `col` nearest to y and x, a half to the larger
 SIZED = np.dtype(SPOT.descr + [("size", "<f4"), ("row", "<u2"), ("col", "<u2"), ("accepted", "?"), ("spare_sized", "u1", (3,))])
 
 for kind, width in ((SET, lib.URAMSHEG_SET_BYTES), (SPOT, lib.URAMSHEG_SPOT_BYTES), (SIZED, lib.URAMSHEG_SIZED_BYTES)):

@@ -23,16 +23,20 @@ def tiles(length, side):
 
 
 def listed(levels, tables, thresholds, octave=0, *, side=SIDE):
-    """The sized records of a scene, and for each the row and the col at which its tile begins: x, y, key, row and col are the tile's own."""
+    """The sized records of a scene, and for each the row and the col at which its tile begins, and those of the pixel that it was found at.
+
+    x, y, key, row and col of a record are the tile's own; the pixel, which its key names, is the scene's.
+    """
     rows, cols = np.shape(levels[0])
-    records, corners = [np.zeros(0, SIZED)], [np.zeros((0, 2), int)]
+    records, corners, pixels = [np.zeros(0, SIZED)], [np.zeros((0, 2), int)], [np.zeros((0, 2), int)]
     for top, bottom in tiles(rows, side):
         for left, right in tiles(cols, side):
             parts = [level[top:bottom, left:right] for level in levels]
             found = join(detect(parts, tables, thresholds, octave), tables, parts[0].shape)
             records.append(found)
             corners.append(np.full((len(found), 2), (top, left)))
-    return np.concatenate(records), np.concatenate(corners)
+            pixels.append(corners[-1] + np.stack(np.divmod(found["key"].astype(int), max(right - left, 1)), axis=1))
+    return tuple(np.concatenate(parts) for parts in (records, corners, pixels))
 
 
 def halved(level, *, side=SIDE):
