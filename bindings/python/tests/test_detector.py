@@ -35,6 +35,14 @@ def test_map_m(m):
     assert f"{sized['size']:.6f}" == "2.828427"
 
 
+@pytest.mark.parametrize("col, count", [(1, 1), (2, 0), (6, 0), (7, 1)])
+def test_a_lost_pixel_strikes_by_the_pixel_that_a_spot_was_found_at(m, col, count):
+    """Map M's spot was found at (4, 4), and its home is (4, 5)."""
+    levels = m.levels()
+    levels[0][4, col] = np.nan
+    assert len(u.detect(levels, m.set, m.thresholds, m.octave)) == count
+
+
 def homes(*places):
     """The home rows and cols of records at these x and y, on the longest sides; the records are handed over as bytes too."""
     spots = np.zeros(len(places), u.SPOT)

@@ -73,7 +73,14 @@ fn map_m_lists_its_record() {
 
 #[test]
 fn a_lost_pixel_strikes_the_spots_around_it_alone() {
-    for (lost, spots) in [((2, 4), 0), ((2, 2), 1)] {
+    // the pixels around (4, 4), where the spot was found, and not those around its home, (4, 5)
+    for (lost, spots) in [
+        ((2, 4), 0),
+        ((2, 2), 1),
+        ((4, 2), 0),
+        ((4, 6), 0),
+        ((4, 7), 1),
+    ] {
         let mut levels = levels(9, 10, (4, 4));
         levels[0][lost.1 * 9 + lost.0] = f32::NAN;
         let listed = uramsheg::spots(&set_t(), THRESHOLDS, map(9, 10, &levels)).unwrap();
