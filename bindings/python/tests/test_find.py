@@ -132,6 +132,17 @@ def test_near_a_lost_pixel(away, listed, near):
     assert len(spots) == listed and spots["near_lost"].tolist() == [near] * listed
 
 
+@given(st.floats(8, 80), st.floats(8, 80), st.floats(0.5, 9), st.integers(0, 89), st.integers(0, 89))
+def test_near_lost_is_five_sigmas_from_the_place(x, y, sigma, row, col):
+    """Each way, and at most a pixel and a half more."""
+    spots, lost = np.zeros(1, u.FOUND), np.zeros((90, 90), bool)
+    spots["x"], spots["y"], spots["sigma"], spots["row"], spots["col"] = x, y, sigma, np.floor(y + 0.5), np.floor(x + 0.5)
+    lost[row, col] = True
+    away = max(abs(row - y), abs(col - x))
+    (near,) = finding.placed(spots, u.Grid(), lost)["near_lost"]
+    assert near if away <= 5 * sigma else not near or away < 5 * sigma + 1.5
+
+
 def test_judged_says_which_sigmas():
     judged = u.find(np.zeros((300, 300)), peak=1).judged
     assert [(one.octave, one.low, one.high) for one in judged] == [(o, 1.9027314 * 2**o, 4.1498866 * 2**o) for o in range(4)]
