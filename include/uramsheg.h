@@ -19,7 +19,7 @@
  *
  * A sized record (52 bytes, little-endian): the spot record; 40 corrected sigma f32 (+0.0 where the spot has no size); 44 home row u16, 46 home col u16
  * (the pixel nearest to y and x, a half to the larger); 48 accepted (1 where there is a size, else 0); 49 50 51 zero
- * Detection moves a spot by at most 0.6 of a pixel each way, so that its home pixel is its own or one beside it.
+ * Detection moves a spot by at most 0.6 of a pixel each way, so that its home pixel is its own or one of the eight around it.
  *
  * A worked case, map M: under the set that examples/detect.c builds, 9 rows by 10 cols, all 0 but pixel (4,4), 0.25 in level 0 and -0.25 in level 1,
  * thresholds 1, 1, 10, window 1.9027314 to 4.1498866, octave 0, the list is the one record

@@ -95,6 +95,19 @@ rounds-on-side n c x inside few r =
     let end = value-finite last false (n - 1) 1 (round-whole binary32 false (n - 1) (omega arith)) in
     (between-finite x last low high end, rw (is-true (le f0 x) low, is-true (le x last) high))
 
+rounds-not-below : (c : ℕ) (x : Float) → Rounds c (c + 2) x → T (le (ofInt binary32 (pos c)) x)
+unfolding ofInt
+rounds-not-below c x r =
+    subst (λ (z : Float). T (le (round binary32 false c 1) z)) (sym (r .is)) (round-mono binary32 c 1 (r .part) (r .whole) (omega arith) (r .some) (let l = r .not-below in omega arith))
+
+-- A pixel c, not the first of its side, moved by a displacement that passes, is not before the pixel before it.
+pub displaced-not-below : (c : ℕ) (d : Float) → 0 < c → c ≤ 16777216 → nearby d ≡ true → T (le (ofInt binary32 (pos (c - 1))) (ofInt binary32 (pos c) ⊕ d))
+unfolding ofInt
+displaced-not-below zero d low few h = let z : ⊥ = omega arith in absurd z
+displaced-not-below (suc c) d low few h =
+    let same : suc c - 1 ≡ c = omega arith in
+    rw same (rounds-not-below c _ (displaced-rounds c (round binary32 false (suc c) 1) d (round-whole binary32 false (suc c) few) h))
+
 -- A pixel c of a side of n, neither the first nor the last, moved by a displacement that passes, is finite and lies on the side: for sides to 2^24, up to which a whole number is a value of f32.
 pub displaced-on-side : (n c : ℕ) (d : Float) → 0 < c → c + 1 < n → n ≤ 16777216 → nearby d ≡ true
     → (finite (ofInt binary32 (pos c) ⊕ d) ≡ true) × (onSide n (ofInt binary32 (pos c) ⊕ d) ≡ true)

@@ -1,6 +1,7 @@
--- An accepted spot lies on its map (OnMap); the samples test and the join's test refuse nothing (Samples, Accepted), so the list is the one by the Rust's own tests (Rust).
+-- An accepted spot lies on its map (OnMap), its home at its own pixel or beside it (Beside); the samples test and the join's test refuse nothing (Samples, Accepted), so the list is the one by the Rust's own tests (Rust).
 pub mod Displaced
 pub mod OnMap
+pub mod Beside
 pub mod Samples
 mod Envelope
 pub mod Accepted

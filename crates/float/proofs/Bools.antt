@@ -1,6 +1,11 @@
 -- Laws of tests that the kit's library does not have. Assumes nothing.
-use mathlib.Core.Path.{_≡_, refl, sym, _∙_}
+use mathlib.Core.Path.{_≡_, refl, sym, _∙_, subst}
+use lib.Dec.{T}
 use mathlib.Core.Bool.{Bool, true, false, cond, not, _&&_, _||_, true≢false, false≢true, and-eq-true-iff}
+
+-- ---- a test that said yes
+pub says : (b : Bool) → b ≡ true → T b
+says b e = subst T (sym e) tt
 
 -- ---- several tests in one
 

@@ -1,13 +1,15 @@
 -- The constants that the code writes, and comparisons of a value with itself, with the infinity and with zero. Assumes nothing.
 use mathlib.Core.Path.{_≡_, refl, sym, _∙_}
-use Prim.Native.Nat.{ℕ, zero, suc, _+_, _*_, _^_, _<_}
+use Prim.Native.Nat.{ℕ, zero, suc, _+_, _*_, _^_, _≤_, _<_}
 use native.Mathlib.Nat.{mul-pos, zero-lt-suc, zero-mul, mul-one, one-mul, pow-succ'}
 use native.Mathlib.Omega.{arith}
 use mathlib.Core.Bool.{Bool, true, false, not, true≢false, false≢true}
 use lib.IntN.{ℤ, pos, negsuc}
 use lib.Dec.{T, eqb, eqb-refl, eqb→eq}
 use lib.Pow.{pow-pos}
-use lib.Ieee.{Float, nan, inf, fin, binary32, up, down, lt, eq, ne, isNan, fits, ofBits, odd, div}
+use lib.Ieee.{Float, nan, inf, fin, binary32, up, down, lt, eq, ne, isNan, fits, ofInt, ofBits, odd, div}
+use lib.Ieee.Exact.{HasValue}
+use lib.Ieee.Back.{round-whole}
 use lib.Ieee.Fits.{up-pos}
 use lib.Ieee.Bits.{is-true}
 use borrow.Author.Tests.{lt-ltb, le-ltb, ne-eqb}
@@ -25,6 +27,11 @@ inf-is = refl
 pub nan-is : div binary32 (ofBits binary32 0) (ofBits binary32 0) ≡ nan
 unfolding div ofBits odd
 nan-is = refl
+
+-- ---- a whole number of 24 digits, made a float, is exact
+pub whole-value : (n : ℕ) → n ≤ 2 ^ 24 → HasValue (ofInt binary32 (pos n)) false n 1
+unfolding ofInt
+whole-value n h = round-whole binary32 false n h
 
 -- ---- a test that said no
 pub refuted : (b : Bool) → b ≡ false → T b → ⊥

@@ -10,20 +10,16 @@ use lib.Dec.{T, ltb, leb, ltb→lt, nltb→le, leb→le, nleb→lt, lit<}
 use lib.Pow.{pow-add, pow-pos, pow-mono}
 use lib.Ieee.{Float, nan, inf, fin, binary32, up, down, round, mul, neg, ofInt, ofBits}
 use lib.Ieee.Exact.{HasValue, round-exact}
-use lib.Ieee.Back.{round-whole}
 use lib.Ieee.Positive.{positive, positive-of-value, mul-at}
 use Rattle.float.specs.Log.{scaledOf, joined}
 use Rattle.float.specs.Claims.{Between}
 use Rattle.float.specs.Claims as claims
+use Rattle.float.proofs.Floats.{whole-value}
 
 -- n / 2^k, for an n of 24 digits, is exact
-of-int : (n : ℕ) → n ≤ 2 ^ 24 → HasValue (ofInt binary32 (pos n)) false n 1
-unfolding ofInt
-of-int n h = round-whole binary32 false n h
-
 quotient : (n d : ℕ) (y : Float) (k j : ℕ) → 0 < n → n < 2 ^ 24 → k + j ≡ 149 → d ≡ 2 ^ k → T (positive y) → HasValue y false 1 d → HasValue (mul binary32 (ofInt binary32 (pos n)) y) false n d
 quotient n d y k j p h e f py vy =
-    let vx = of-int n (le-of-lt h) in
+    let vx = whole-value n (le-of-lt h) in
     let dp : 0 < d = subst (λ (z : ℕ). 0 < z) (sym f) (pow-pos k) in
     let m = mul-at binary32 (ofInt binary32 (pos n)) y n 1 1 d (positive-of-value (ofInt binary32 (pos n)) n 1 vx p) py (lit< tt) dp vx vy in
     let eq : n * 1 * 2 ^ 149 ≡ n * 2 ^ j * (1 * d) =

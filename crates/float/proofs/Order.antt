@@ -14,6 +14,7 @@ use lib.Ieee.Order.{transfer}
 use lib.Ieee.Positive.{num, den, first-pos}
 use borrow.Author.Tests.{le-ltb, ltb-false}
 use Rattle.float.specs.Num.{f0}
+use Rattle.float.specs.Small.{finite}
 use Rattle.float.proofs.Floats.{zero-is}
 
 -- ---- beside a NaN
@@ -236,4 +237,22 @@ up-to (fin false m e) (fin false n d) b c v p t =
     (le-trans (le-of-eq (mul-right-comm (m * up e) c (down d)))
     (le-trans (mul-le-mul-right c (le-says (m * up e * down d) (n * up d * down e) t))
     (le-of-eq (mul-right-comm (n * up d) (down e) c ∙ ap (λ (k : ℕ). k * down e) (v .1) ∙ mul-right-comm b (down d) (down e)))))
+    (down-pos d)
+
+-- not below y, which is b / c, it has a size of at least b / c
+pub at-least : (x y : Float) (b c : ℕ) → HasValue y false b c → finite x ≡ true → T (le y x) → b * den x ≤ num x * c
+unfolding le finite
+at-least nan y b c v f t = absurd (false≢true f)
+at-least (inf s) y b c v f t = absurd (false≢true f)
+at-least (fin s m e) nan b c v f t = absurd v
+at-least (fin s m e) (inf r) b c v f t = absurd v
+at-least (fin s m e) (fin true n d) b c v f t = absurd (true≢false (v .0))
+at-least (fin true m e) (fin false n d) b c v f t =
+    let none : n * up d * down e ≡ 0 = eqb→eq (n * up d * down e) 0 (and-r (eqb (n * up d * down e) (m * up e * down d)) (eqb (n * up d * down e) 0) t) in
+    le-of-mul-le-mul-right (le-trans (le-of-eq (mul-right-comm b (down e) (down d) ∙ ap (λ (k : ℕ). k * down e) (sym (v .1)) ∙ mul-right-comm (n * up d) c (down e) ∙ ap (λ (k : ℕ). k * c) none ∙ zero-mul c)) zero-le) (down-pos d)
+at-least (fin false m e) (fin false n d) b c v f t =
+    le-of-mul-le-mul-right
+    (le-trans (le-of-eq (mul-right-comm b (down e) (down d) ∙ ap (λ (k : ℕ). k * down e) (sym (v .1)) ∙ mul-right-comm (n * up d) c (down e)))
+    (le-trans (mul-le-mul-right c (le-says (n * up d * down e) (m * up e * down d) t))
+    (le-of-eq (mul-right-comm (m * up e) (down d) c))))
     (down-pos d)

@@ -3,18 +3,17 @@
 use Prim.Native.Nat.{ℕ, zero, suc, _+_, _-_, _*_, _^_, _≤_, _<_}
 use native.Mathlib.Nat.{le-trans, le-of-eq, mul-one, mul-zero, zero-mul, mul-le-mul-right, not-suc-le-zero}
 use native.Mathlib.Omega.{arith}
-use mathlib.Core.Bool.{Bool, true, false}
+use mathlib.Core.Bool.{true}
 use mathlib.Core.List.{List}
-use mathlib.Core.Path.{_≡_, sym, subst}
+use mathlib.Core.Path.{_≡_, sym}
 use lib.IntN.{pos}
 use lib.Dec.{T}
 use lib.Ieee.{Float, binary32, le, ofInt}
-use lib.Ieee.Exact.{HasValue}
-use lib.Ieee.Back.{round-whole}
 use lib.Ieee.Positive.{num, den}
 use Rattle.float.specs.Num.{f0}
 use Rattle.float.specs.Small.{finite}
-use Rattle.float.proofs.Bools.{both}
+use Rattle.float.proofs.Bools.{says, both}
+use Rattle.float.proofs.Floats.{whole-value}
 use Rattle.float.proofs.Order.{up-to}
 use Rattle.whole.specs.Nearest.{Nearest, largest, nearestOf}
 use Rattle.whole.proofs.NearestLaws as near
@@ -29,15 +28,8 @@ use Rattle.join.proofs.CheckLaws.{Passed}
 
 -- ---- a float on a side, by whole numbers
 
-whole-value : (n : ℕ) → n ≤ 2 ^ 24 → HasValue (ofInt binary32 (pos n)) false n 1
-unfolding ofInt
-whole-value n h = round-whole binary32 false n h
-
-says : (b : Bool) → b ≡ true → T b
-says b e = subst T (sym e) tt
-
 -- 0 to n - 1
-on-side : (n : ℕ) (x : Float) → n ≤ 4096 → onSide n x ≡ true → T (le f0 x) × (num x ≤ (n - 1) * den x)
+pub on-side : (n : ℕ) (x : Float) → n ≤ 4096 → onSide n x ≡ true → T (le f0 x) × (num x ≤ (n - 1) * den x)
 unfolding onSide within
 on-side n x l h =
     let p = both (le f0 x) (le x (ofInt binary32 (pos (n - 1)))) h in
@@ -50,7 +42,8 @@ side-nearest n x l f h =
     let few : n - 1 ≤ largest = omega arith in
     near.nearest-is x f (p .0) (le-trans (p .1) (mul-le-mul-right (den x) few))
 
-side-under : (n : ℕ) (x : Float) → 0 < n → n ≤ 4096 → finite x ≡ true → onSide n x ≡ true → nearestOf x < n
+-- the nearest number is on the side too
+pub side-under : (n : ℕ) (x : Float) → 0 < n → n ≤ 4096 → finite x ≡ true → onSide n x ≡ true → nearestOf x < n
 side-under n x some l f h =
     let p = on-side n x l h in
     let most = near.nearest-most x (n - 1) f (p .0) (omega arith) (p .1) in

@@ -42,6 +42,13 @@ to-most a c n p h = go (nearestTo a c) (to-low a c p)
     go : (q : ℕ) → 2 * q * c ≤ 2 * a + c → q ≤ n
     go q i = let less : q * (2 * c) < (n + 1) * (2 * c) = omega arith in let r : q < n + 1 = lt-of-mul-lt-mul-right (2 * c) less in omega arith
 
+-- at least n where the fraction is
+pub to-least : (a c n : ℕ) → 0 < c → n * c ≤ a → n ≤ nearestTo a c
+to-least a c n p h = go (nearestTo a c) (to-high a c p)
+  where
+    go : (q : ℕ) → 2 * a < (2 * q + 1) * c → n ≤ q
+    go q i = let less : n * (2 * c) < (q + 1) * (2 * c) = omega arith in let r : n < q + 1 = lt-of-mul-lt-mul-right (2 * c) less in omega arith
+
 -- ---- up to the largest
 pub saturated-keeps : (n : ℕ) → n ≤ largest → saturated n ≡ n
 unfolding saturated
@@ -89,6 +96,10 @@ nearest-most x n f p l h = subst (λ (q : ℕ). q ≤ n) (sym (nearest-value x f
   where
     under : (d : ℕ) → n * d ≤ largest * d
     under d = mul-le-mul-right d l
+
+-- at least n where the value is
+pub nearest-least : (x : Float) (n : ℕ) → finite x ≡ true → T (le f0 x) → num x ≤ largest * den x → n * den x ≤ num x → n ≤ nearestOf x
+nearest-least x n f p h l = subst (λ (q : ℕ). n ≤ q) (sym (nearest-value x f p h)) (to-least (num x) (den x) n (den-pos x) l)
 
 -- from half above the largest u32 on it is the largest
 pub nearest-over : (x : Float) → finite x ≡ true → T (le f0 x) → (2 * largest + 1) * den x ≤ 2 * num x → nearestOf x ≡ largest

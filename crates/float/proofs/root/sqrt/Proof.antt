@@ -2,12 +2,13 @@
 use mathlib.Core.Path.{_≡_, sym, ap, _∙_, subst}
 use Prim.Native.Nat.{ℕ, _<_}
 use native.Mathlib.Nat.{le-of-lt}
-use mathlib.Core.Bool.{Bool, true, false}
+use mathlib.Core.Bool.{false}
 use lib.Dec.{T}
 use lib.Ieee.{Float, nan, inf, binary32, fits, ofBits, toBits}
 use lib.Ieee.Compare.{differs-from-itself}
 use lib.Ieee.Positive.{positive}
 use Rattle.float.specs.Sqrt.{sqrtOf}
+use Rattle.float.proofs.Bools.{says}
 use Rattle.float.proofs.Floats.{inf-is, nan-is, not-nan, is-inf}
 use Rattle.float.proofs.Patterns.{not-nan-pattern, positive-bits}
 use Rattle.float.proofs.Places.{is-positive}
@@ -22,9 +23,6 @@ held c = subst T (sym (c .good .0 .1)) tt
 -- what is its own root
 own : (x y : Float) → x ≡ y → sqrtOf y ≡ y → x ≡ sqrtOf x
 own x y e f = e ∙ sym f ∙ ap sqrtOf (sym e)
-
-says : (b : Bool) → b ≡ true → T b
-says b e = subst T (sym e) tt
 
 returns : tie.Need-returns
 returns c = own (c .before .args .x) nan (differs-from-itself (c .before .args .x) (says _ (c .if1 .taken))) sqrt-nan
