@@ -5,7 +5,7 @@ use native.Mathlib.Omega.{arith}
 use mathlib.Core.Bool.{true, false, false≢true}
 use mathlib.Core.Path.{_≡_, refl, sym, ap, _∙_, subst}
 use lib.Dec.{T, lit≤}
-use lib.Ieee.{Float, nan, inf, fin, binary32, down, le, ofBits}
+use lib.Ieee.{Float, nan, inf, fin, down, le}
 use lib.Ieee.Fits.{down-pos}
 use lib.Ieee.Nearest.{div-same}
 use lib.Ieee.Positive.{num, den, den-pos}
@@ -107,12 +107,3 @@ nearest-over x f p h = sized x f p ∙ saturated-over (nearestTo (num x) (den x)
   where
     go : (n : ℕ) → 2 * num x < (2 * n + 1) * den x → largest < n
     go n less = let r : 2 * largest + 1 < 2 * n + 1 = lt-of-mul-lt-mul-right (den x) (lt-of-le-of-lt h less) in omega arith
-
--- ---- worked values: 0, -0, the float just below 0.5, 0.5, 2.5, 4, 4.5, 4,095, the last below 2^32, 2^32, both infinities, -0.75 and NaN
-pub worked : (nearestOf (ofBits binary32 0x0000_0000) ≡ 0) × (nearestOf (ofBits binary32 0x8000_0000) ≡ 0) × (nearestOf (ofBits binary32 0x3eff_ffff) ≡ 0)
-    × (nearestOf (ofBits binary32 0x3f00_0000) ≡ 1) × (nearestOf (ofBits binary32 0x4020_0000) ≡ 3) × (nearestOf (ofBits binary32 0x4080_0000) ≡ 4)
-    × (nearestOf (ofBits binary32 0x4090_0000) ≡ 5) × (nearestOf (ofBits binary32 0x457f_f000) ≡ 4095) × (nearestOf (ofBits binary32 0x4f7f_ffff) ≡ 0xffff_ff00)
-    × (nearestOf (ofBits binary32 0x4f80_0000) ≡ largest) × (nearestOf (ofBits binary32 0x7f80_0000) ≡ largest) × (nearestOf (ofBits binary32 0xff80_0000) ≡ 0)
-    × (nearestOf (ofBits binary32 0xbf40_0000) ≡ 0) × (nearestOf (ofBits binary32 0x7fc0_0000) ≡ 0)
-unfolding nearestOf nearestTo saturated ofBits
-worked = (refl, refl, refl, refl, refl, refl, refl, refl, refl, refl, refl, refl, refl, refl)
