@@ -1,7 +1,7 @@
 -- Demand 3: the list of a map that lost pixels is the whole map's, less the spots with a lost pixel among their 21. Assumes nothing.
-use Prim.Native.Nat.{ℕ, zero, suc, _+_, _-_, _*_, _≤_, _<_}
+use Prim.Native.Nat.{ℕ, zero, suc, _+_, _-_, _*_, _/_, _%_, _≤_, _<_}
 use native.Mathlib.Omega.{arith}
-use mathlib.Core.Path.{_≡_, refl, sym, _∙_}
+use mathlib.Core.Path.{_≡_, refl, sym, ap, _∙_}
 use mathlib.Core.Bool.{Bool, true, false, cond, true≢false}
 use mathlib.Core.Logic.{_↔_}
 use mathlib.Core.List.{List, [], _∷_, _++_}
@@ -86,7 +86,11 @@ module _ (lost : ℕ → ℕ → Bool) (f : Frame) (s : Set) (th : Thresholds) (
 
     spared-here : (r : Record) → r .key ≡ row * f .cols + col → spared lost (f .cols) r ≡ clear lost row col
     unfolding spared
-    spared-here r e = let on : col < f .cols = omega arith in rw (e, digits-div row on, digits-mod row on)
+    spared-here r e =
+        let on : col < f .cols = omega arith in
+        let row-is : r .key / f .cols ≡ row = ap (λ (k : ℕ). k / f .cols) e ∙ digits-div row on in
+        let col-is : r .key % f .cols ≡ col = ap (λ (k : ℕ). k % f .cols) e ∙ digits-mod row on in
+        ap (λ (i : ℕ). clear lost i (r .key % f .cols)) row-is ∙ ap (clear lost row) col-is
 
     keep-judged : (isMax : Bool) → keep (spared lost (f .cols)) (listed (judgeOf A row col isMax)) ≡ cond (clear lost row col) (listed (judgeOf A row col isMax)) []
     keep-judged isMax =
