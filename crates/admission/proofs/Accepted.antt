@@ -15,7 +15,7 @@ use Rattle.tables.specs.declared.Thresholds.{Thresholds}
 use Rattle.fit.specs.Cubic.{_at_, curvatureOf}
 use Rattle.fit.specs.Prims.{Prims, Allowed}
 use Rattle.fit.specs.declared.Band.{Band}
-use Rattle.fit.proofs.Finite.{sum-finite, product-finite}
+use Rattle.float.proofs.Finite.{sum-finite, product-finite}
 use Rattle.refine.specs.Refine.{refineBy}
 use Rattle.refine.specs.declared.Spot.{Spot}
 use Rattle.refine.specs.declared.Refined.the-variants.{Accepted}

@@ -5,6 +5,7 @@ mod candidates; // candidates.rt: the loops over the pixels
 ghost use mathlib.Core.Path.{_≡_};
 ghost use Rattle.alp.specs.Detect.{outcome, detectOf};
 pub use join::join;
+pub use levels::levels;
 use pixel::Frame;
 pub use pyramid::downsample;
 pub use pyramid::octave_count;

@@ -28,9 +28,11 @@ use Rattle.alp.specs.declared.Answer.the-variants.{Found, Refused}
 use Rattle.alp.proofs.RefusalsLaws.{refused-first, first-answered}
 use Rattle.join.specs.Join as join
 use Rattle.join.specs.declared.Joined.{Joined}
+use Rattle.levels.specs.Levels as levels
+use Rattle.levels.specs.declared.Blurred.{Blurred}
 use Rattle.pyramid.specs.Pyramid as pyramid
 use Rattle.pyramid.specs.declared.Halved.{Halved}
-use Rattle.alp_c.specs.Face.{packed, Left, left, leftBy, detectFace, checkFace, joinPacked, joinLeft, halvedNumber, rowsAfter, colsAfter, halvedLeft}
+use Rattle.alp_c.specs.Face.{packed, Left, left, leftBy, detectFace, checkFace, joinPacked, joinLeft, halvedNumber, rowsAfter, colsAfter, halvedLeft, blurredNumber, levelsLeft, levelsLeftBy}
 
 pub left-by : {a : Answer} {o : List ℕ} {r v : ℕ} {d : Outcome} → r ≡ packed a .number → v ≡ packed a .value → outcome a o ≡ d → left r v o ≡ leftBy d
 left-by p q e = rw (p, q) (ap leftBy e)
@@ -42,6 +44,10 @@ pub halved-left-by : {a : Halved} {o : List Float} {r v w : ℕ} {d : pyramid.Ou
     → halvedLeft r v w o ≡ halvedLeft (halvedNumber (d .answer)) (rowsAfter (d .answer) p) (colsAfter (d .answer) q) (d .buffer)
 halved-left-by p q r-is v-is w-is e =
     rw (r-is, v-is, w-is) (ap (λ (x : pyramid.Outcome). halvedLeft (halvedNumber (x .answer)) (rowsAfter (x .answer) p) (colsAfter (x .answer) q) (x .buffer)) e)
+
+pub levels-left-by : {a : Blurred} {l0 l1 l2 l3 : List Float} {r : ℕ} {d : levels.Outcome} → r ≡ blurredNumber a → levels.outcome a l0 l1 l2 l3 ≡ d
+    → levelsLeft r l0 l1 l2 l3 ≡ levelsLeftBy d
+levels-left-by p e = rw p (ap levelsLeftBy e)
 
 -- ---- the set's record
 

@@ -1,6 +1,7 @@
 // The C face of the detector: thin, each answer as a number and a value.
 mod correction; // correction.rt: the correction
 mod octaves; // octaves.rt: the octave count, and a level halved
+mod raw; // raw.rt: the levels of a raw map
 mod sized; // sized.rt: the join
 
 ghost use mathlib.Core.Path.{_≡_};
@@ -10,6 +11,7 @@ use alp::Answer;
 pub use correction::uramsheg_correct;
 pub use octaves::uramsheg_downsample;
 pub use octaves::uramsheg_octave_count;
+pub use raw::uramsheg_levels;
 pub use sized::uramsheg_join;
 use tables::Checked;
 use tables::Thresholds;

@@ -28,7 +28,8 @@ use Rattle.pyramid.specs.Pyramid.{octavesOf, octaveCountOf}
 use Rattle.pixel.specs.Gate.{sigmaOf, peakOf, strongOf, curvedOf, gateBy}
 use Rattle.pixel.specs.Ring.{allOf, beatsBy, ringBy}
 use Rattle.pixel.specs.Verdict.{cubicsOf, wholePlace, wholeOf, anchorOf, polarityOf, recordOf, admitOf, verdictBy}
-use Rattle.samples.specs.Level.{pixelAt, stencilOf, sampleAt, samplesOf, placesOf}
+use Rattle.grid.specs.Grid.{pixelAt}
+use Rattle.samples.specs.Level.{stencilOf, sampleAt, samplesOf, placesOf}
 use Rattle.checks.specs.Checks.{detectChecks}
 use Rattle.alp.specs.Due as dues
 use Rattle.cases.specs.Case.{Case, rootCase, logCase, nearestCase, valueCase, extremeCase, countCase, ofEnvelope, envelopeCase, ofCorrection, correctionCase}

@@ -23,7 +23,8 @@ use Rattle.pixel.specs.Verdict.{anchorOf, recordOf}
 use Rattle.pixel.specs.Rules.{cubicsAt, ownSamples}
 use Rattle.samples.specs.Level.{Maps, stencilOf, sampleAt, samplesOf, samplesAt, nineAt}
 use Rattle.alp.specs.Due.{due}
-use Rattle.samples.proofs.LevelLaws.{area, nine-centre}
+use Rattle.grid.proofs.GridLaws.{area}
+use Rattle.samples.proofs.LevelLaws.{nine-centre}
 use Rattle.demands.specs.List.{Stands, AdmitsAt}
 use Rattle.demands.proofs.Listed.{list-is}
 use Rattle.demands.proofs.Accepted.{join-accepts}

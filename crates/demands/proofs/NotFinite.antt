@@ -5,8 +5,9 @@ use mathlib.Core.Bool.{true}
 use mathlib.Core.List.{List}
 use lib.Ieee.{Float}
 use Rattle.float.specs.Small.{finite}
-use Rattle.fit.proofs.Finite.{sum-finite, difference-finite, product-finite}
-use Rattle.samples.specs.Level.{pixelAt, stencilOf, sampleAt}
+use Rattle.float.proofs.Finite.{sum-finite, difference-finite, product-finite}
+use Rattle.grid.specs.Grid.{pixelAt}
+use Rattle.samples.specs.Level.{stencilOf, sampleAt}
 use Rattle.demands.specs.TwoMaps.{Cross}
 
 record Five (l r u d c : Float) : Type 0 where

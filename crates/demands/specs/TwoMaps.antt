@@ -8,7 +8,8 @@ use lib.Dec.{leb, eqb}
 use Rattle.float.specs.Small.{finite}
 use Rattle.record.specs.declared.Record.{Record}
 use Rattle.record.specs.Layout.{laid}
-use Rattle.samples.specs.Level.{Maps, pixelAt}
+use Rattle.grid.specs.Grid.{pixelAt}
+use Rattle.samples.specs.Level.{Maps}
 use Rattle.alp.specs.Detect.{Outcome, outcome}
 use Rattle.alp.specs.declared.Answer.the-variants.{Found}
 

@@ -9,7 +9,8 @@ use Rattle.float.specs.Small.{finite}
 use Rattle.float.specs.Num.{_⊕_, _⊖_, _⊗_, f6}
 use Rattle.float.proofs.Bools.{contrary}
 use Rattle.fit.specs.Cubic.{_at_, rowOf, coeffsOf, curvatureOf}
-use Rattle.fit.proofs.Finite.{Whole, sum-finite, difference-finite, product-finite}
+use Rattle.float.proofs.Finite.{sum-finite, difference-finite, product-finite}
+use Rattle.fit.proofs.Finite.{Whole}
 
 module _ (t l : List Float) where
   -- a row weighs each difference, and each difference holds the last sample

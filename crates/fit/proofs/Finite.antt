@@ -1,51 +1,12 @@
--- The result of an operation is finite only where its operands are. Assumes nothing.
-use mathlib.Core.Path.{_≡_, refl, sym, _∙_}
+-- Four finite floats.
+use mathlib.Core.Path.{_≡_}
 use mathlib.Core.List.{List}
-use mathlib.Core.Bool.{Bool, true, false, cond}
+use mathlib.Core.Bool.{true}
 use Prim.Native.Nat.{ℕ, _<_}
-use lib.Dec.{eqb}
-use lib.Ieee.{Float, nan, inf, fin, add, sub, mul, neg}
+use lib.Ieee.{Float}
 use Rattle.float.specs.Small.{finite}
-use Rattle.float.specs.Num.{_⊕_, _⊖_, _⊗_}
 use Rattle.fit.specs.Cubic.{_at_}
 
 -- the first four of a list are finite
 abbrev pub Whole : List Float → Type 0
 Whole l = (j : ℕ) → j < 4 → finite (l at j) ≡ true
-
-neither : (b : Bool) (x y : Float) → finite x ≡ false → finite y ≡ false → finite (cond b x y) ≡ false
-neither true x y p q = p
-neither false x y p q = q
-
-pub sum-finite : (x y : Float) → finite (x ⊕ y) ≡ true → (finite x ≡ true) × (finite y ≡ true)
-unfolding add finite
-sum-finite nan y h = (cc, cc)
-sum-finite (inf s) nan h = (cc, cc)
-sum-finite (inf true) (inf true) h = (cc, cc)
-sum-finite (inf true) (inf false) h = (cc, cc)
-sum-finite (inf false) (inf true) h = (cc, cc)
-sum-finite (inf false) (inf false) h = (cc, cc)
-sum-finite (inf s) (fin t n d) h = (cc, cc)
-sum-finite (fin s m e) nan h = (cc, cc)
-sum-finite (fin s m e) (inf t) h = (cc, cc)
-sum-finite (fin s m e) (fin t n d) h = (refl, refl)
-
-neg-finite : (x : Float) → finite (neg x) ≡ finite x
-unfolding neg finite
-neg-finite nan = refl
-neg-finite (inf s) = refl
-neg-finite (fin s m e) = refl
-
-pub difference-finite : (x y : Float) → finite (x ⊖ y) ≡ true → (finite x ≡ true) × (finite y ≡ true)
-unfolding sub
-difference-finite x y h = let p = sum-finite x (neg y) h in (p .0, sym (neg-finite y) ∙ p .1)
-
-pub product-finite : (x y : Float) → finite (x ⊗ y) ≡ true → (finite x ≡ true) × (finite y ≡ true)
-unfolding mul finite
-product-finite nan y h = (cc, cc)
-product-finite (inf s) nan h = (cc, cc)
-product-finite (inf s) (inf t) h = (cc, cc)
-product-finite (inf s) (fin t n d) h = let z : finite (inf s ⊗ fin t n d) ≡ false = neither (eqb n 0) nan _ refl refl in (cc, cc)
-product-finite (fin s m e) nan h = (cc, cc)
-product-finite (fin s m e) (inf t) h = let z : finite (fin s m e ⊗ inf t) ≡ false = neither (eqb m 0) nan _ refl refl in (cc, cc)
-product-finite (fin s m e) (fin t n d) h = (refl, refl)

@@ -14,3 +14,5 @@ mod LogValue
 pub mod LogClaims
 pub mod ExpClaims
 pub mod SmallClaims
+pub mod Finite
+pub mod Rises

@@ -125,13 +125,13 @@ same-value (fin false m e) (fin false n d) a f g v w =
     ∙ ap (ofBits binary32) (bits-by m e n d (units-of m e a v ∙ sym (units-of n d a w)))
     ∙ ofBits-toBits binary32 (fin false n d) g
 
-exponent-le : (M k j : ℕ) → 2 ^ 46 * 2 ^ (2 * k) ≤ M → M < 2 ^ 48 * 2 ^ (2 * j) → k ≤ j
+pub exponent-le : (M k j : ℕ) → 2 ^ 46 * 2 ^ (2 * k) ≤ M → M < 2 ^ 48 * 2 ^ (2 * j) → k ≤ j
 exponent-le M k j l h = le-of-suc-le-suc (lt-of-not-le (λ (g : suc j ≤ k). not-le-of-lt (lt-of-le-of-lt l h) (up g)))
   where
     up : suc j ≤ k → 2 ^ 48 * 2 ^ (2 * j) ≤ 2 ^ 46 * 2 ^ (2 * k)
     up g = le-trans (le-of-eq (sym (pow-add 2 48 (2 * j)))) (le-trans (pow-mono {i = 48 + 2 * j} {j = 46 + 2 * k} (omega arith)) (le-of-eq (pow-add 2 46 (2 * k))))
 
-digits-le : (M p a b : ℕ) → (2 * a - 1) * (2 * a - 1) * p < M → M < (2 * b + 1) * (2 * b + 1) * p → a ≤ b
+pub digits-le : (M p a b : ℕ) → (2 * a - 1) * (2 * a - 1) * p < M → M < (2 * b + 1) * (2 * b + 1) * p → a ≤ b
 digits-le M p a b l h = le-of-suc-le-suc (lt-of-not-le (λ (g : suc b ≤ a). not-le-of-lt (lt-trans l h) (mul-le-mul-right p (up g))))
   where
     up : suc b ≤ a → (2 * b + 1) * (2 * b + 1) ≤ (2 * a - 1) * (2 * a - 1)

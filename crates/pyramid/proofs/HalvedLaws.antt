@@ -1,4 +1,4 @@
--- Laws of the halved level: its sides, its length, where its pixels lie, how it is stored, and what the checks leave to know. Assumes nothing.
+-- Laws of the halved level: its sides, its length, where its pixels lie, and what the checks leave to know. Assumes nothing.
 use Prim.Native.Nat.{ℕ, zero, suc, _+_, _*_, _/_, _≤_, _<_}
 use native.Mathlib.Nat.{not-suc-le-zero, add-zero, add-suc, suc-add, suc-mul, add-mul, mul-comm, mul-le-mul, mul-le-mul-right}
 use native.Mathlib.Numerals.{add-one}
@@ -15,7 +15,10 @@ use borrow.Author.Tests.{ltb-false, lt-ltb, le-ltb, eqb-true, not-false}
 use Rattle.tables.specs.declared.Checked.the-variants.{Fine}
 use Rattle.tables.specs.Refusal.{firstOf}
 use Rattle.tables.proofs.RefusalLaws.{unless-fine, sides-most}
-use Rattle.pyramid.specs.Pyramid.{halfOf, columnOf, columnsOf, halvedOf, needed, Halves, Stored, downsampleChecks, outcome, downsampled}
+use Rattle.grid.specs.Grid.{pixelAt, columnsOf, Stored}
+use Rattle.grid.proofs.GridLaws.{before-last, length-columns, columns-at, area}
+use Rattle.grid.proofs.StoredLaws.{stored-start}
+use Rattle.pyramid.specs.Pyramid.{halfOf, takenOf, halvedOf, needed, Halves, downsampleChecks, outcome, downsampled}
 use Rattle.pyramid.specs.declared.Halved.the-variants.{Sides}
 
 -- ---- half a side
@@ -45,58 +48,12 @@ half-none side other h = (rw (lt-ltb side 2 h), rw (lt-ltb side 2 h, or-true (lt
 
 -- ---- where the pixels lie
 
-before-last : (height n c r : ℕ) → c < n → r < height → c * height + r < n * height
-before-last height n c r h k = omega (arith, mul-le-mul-right {m = suc c} {n = n} height h, suc-mul c height)
-
-module _ (l : List Float) where
-  pub length-column : (p n : ℕ) → length (columnOf l p n) ≡ n
-  unfolding columnOf
-  length-column p zero = refl
-  length-column p (suc n) = length-append (columnOf l p n) _ ∙ rw (length-column p n, add-one)
-
-  -- a column's r-th float stands 2r places after its first
-  pub column-at : (p n r : ℕ) → r < n → getD (columnOf l p n) r nan ≡ getD l (p + 2 * r) nan
-  unfolding columnOf
-  column-at p zero r h = absurd (not-suc-le-zero h)
-  column-at p (suc n) r h =
-      below-more (λ k. getD (columnOf l p (suc n)) k nan ≡ getD l (p + 2 * k) nan) n
-      (λ k less. List·getD-append (columnOf l p n) _ nan k (omega (arith, length-column p n)) ∙ column-at p n k less)
-      (getD-at (columnOf l p n) _ [] nan n (length-column p n))
-      r (omega arith)
-
-  module _ (rows height : ℕ) where
-    pub length-columns : (n : ℕ) → length (columnsOf l rows height n) ≡ n * height
-    unfolding columnsOf
-    length-columns zero = omega arith
-    length-columns (suc n) =
-        omega (
-          arith,
-          length-append (columnsOf l rows height n) (columnOf l (2 * n * rows) height),
-          length-columns n,
-          length-column (2 * n * rows) height,
-          suc-mul n height,
-        )
-
-    -- pixel (r, c) of the first n columns is the level's (2r, 2c)
-    pub columns-at : (n c r : ℕ) → c < n → r < height → getD (columnsOf l rows height n) (c * height + r) nan ≡ getD l (2 * c * rows + 2 * r) nan
-    unfolding columnsOf
-    columns-at zero c r h k = absurd (not-suc-le-zero h)
-    columns-at (suc n) c r h k =
-        below-more (λ i. getD (columnsOf l rows height (suc n)) (i * height + r) nan ≡ getD l (2 * i * rows + 2 * r) nan) n
-        (λ i less.
-        List·getD-append (columnsOf l rows height n) _ nan (i * height + r) (omega (arith, length-columns n, before-last height n i r less k))
-        ∙ columns-at n i r less k)
-        (ap (λ (m : ℕ). getD (columnsOf l rows height (suc n)) (m + r) nan) (sym (length-columns n))
-        ∙ getD-append-add (columnsOf l rows height n) _ r nan
-        ∙ column-at (2 * n * rows) height r k)
-        c (omega arith)
-
 -- pixel (r, c) of the halved level is the level's (2r, 2c)
 pub halved-pixel : (rows cols : ℕ) (l : List Float) (r c : ℕ) → r < rows / 2 → c < cols / 2
-    → getD (halvedOf rows cols l) (c * (rows / 2) + r) nan ≡ getD l (2 * c * rows + 2 * r) nan
-unfolding halvedOf
+    → pixelAt (halvedOf rows cols l) (rows / 2) r c ≡ pixelAt l rows (2 * r) (2 * c)
+unfolding halvedOf pixelAt
 halved-pixel rows cols l r c h k =
-    rw (half-of rows cols (omega arith) (omega arith), half-of cols rows (omega arith) (omega arith)) (columns-at l rows (rows / 2) (cols / 2) c r k h)
+    rw (half-of rows cols (omega arith) (omega arith), half-of cols rows (omega arith) (omega arith)) (columns-at (takenOf l rows) (rows / 2) (cols / 2) c r k h)
 
 -- it lies before the halved level's end
 pub pixel-before : (rows cols r c : ℕ) → r < rows / 2 → c < cols / 2 → c * (rows / 2) + r < needed rows cols
@@ -107,33 +64,7 @@ pixel-before rows cols r c h k =
 
 pub length-halved : (rows cols : ℕ) (l : List Float) → length (halvedOf rows cols l) ≡ needed rows cols
 unfolding halvedOf needed
-length-halved rows cols l = length-columns l rows (halfOf rows cols) (halfOf cols rows) ∙ mul-comm (halfOf cols rows) (halfOf rows cols)
-
--- ---- how it is stored
-
--- two runs of stores, one after the other, are one
-pub sets-append : {A : Type 0} (a b l : List A) (i : ℕ) → sets l i (a ++ b) ≡ sets (sets l i a) (i + length a) b
-sets-append [] b l i = rw add-zero
-sets-append (x ∷ a) b l i = rw (add-suc, ← suc-add) (sets-append a b (set l i x) (suc i))
-
-pub stored-none : {out : List Float} {at : ℕ} → Stored out out at []
-stored-none = record { floats = refl }
-
-pub stored-one : {out : List Float} {at : ℕ} {x : Float} → Stored out (set out at x) at (x ∷ [])
-stored-one = record { floats = refl }
-
--- what is stored in two parts, one after the other
-pub stored-append : {a b c : List Float} {at m : ℕ} {fs gs : List Float} → Stored a b at fs → m ≡ at + length fs → Stored b c m gs → Stored a c at (fs ++ gs)
-stored-append {a = a} {at = at} {fs = fs} {gs = gs} p e q = record { floats = q .floats ∙ rw (e, p .floats) (sym (sets-append fs gs a at)) }
-
-pub stored-length : {a b : List Float} {at : ℕ} {fs : List Float} → Stored a b at fs → length b ≡ length a
-stored-length {a = a} {at = at} {fs = fs} p = ap length (p .floats) ∙ length-sets a at fs
-
--- what is stored from the buffer's start on stands before the old floats
-pub stored-start : {a b : List Float} {fs : List Float} → Stored a b 0 fs → length fs ≤ length a → b ≡ fs ++ drop (length fs) a
-stored-start {a = a} {fs = fs} p room =
-    let start : 0 + length fs ≡ length fs = omega arith in
-    p .floats ∙ sets-eq fs a 0 (omega arith) ∙ ap (λ (k : ℕ). fs ++ drop k a) start
+length-halved rows cols l = length-columns (takenOf l rows) (halfOf rows cols) (halfOf cols rows) ∙ mul-comm (halfOf cols rows) (halfOf rows cols)
 
 -- ---- what the checks leave to know
 
@@ -158,9 +89,6 @@ checks-passed n room rows cols h =
       roomy = ltb-false _ _ (buffer .0);
     }
 
-pub area : {a b : ℕ} → a ≤ 4096 → b ≤ 4096 → a * b ≤ 16777216
-area = mul-le-mul
-
 pub passed-halves : {n room rows cols : ℕ} → Passed n room rows cols → Halves n room rows (halfOf rows cols) (halfOf cols rows)
 unfolding needed
 passed-halves {n} {room} {rows} {cols} p = record {
@@ -181,7 +109,7 @@ column-inside {rows = rows} {height = height} {width = width} c h less = (
 
 -- the halved level stored at the start of a buffer with room for it is what a call that no check refuses leaves
 pub halved-stored : (rows cols : ℕ) (l out : List Float) {out' : List Float} → Passed (length l) (length out) rows cols
-    → Stored out out' 0 (columnsOf l rows (halfOf rows cols) (halfOf cols rows))
+    → Stored out out' 0 (columnsOf (takenOf l rows) (halfOf rows cols) (halfOf cols rows))
     → outcome (Sides (halfOf rows cols) (halfOf cols rows)) out' ≡ downsampled Fine rows cols l out
 unfolding downsampled halvedOf
 halved-stored rows cols l out p s = ap (outcome (Sides (halfOf rows cols) (halfOf cols rows))) (stored-start s (omega (arith, length-halved rows cols l, p .roomy)))

@@ -5,8 +5,7 @@ use native.Mathlib.Omega.{arith}
 use mathlib.Core.Bool.{Bool, true, false, cond}
 use mathlib.Core.List.{List}
 use mathlib.Core.Path.{_≡_, refl, _∙_}
-use lib.ListN.{length, getD, drop, length-append, length-drop, List·getD-append}
-use lib.Seq.{getD-append-add, getD-drop}
+use lib.ListN.{length, getD}
 use lib.Dec.{ltb, leb}
 use lib.Ieee.{Float, nan}
 use borrow.Author.Tests.{ltb-false, leb-false, le-ltb, lt-leb}
@@ -15,6 +14,8 @@ use Rattle.tables.specs.declared.Checked.{Checked}
 use Rattle.tables.specs.declared.Checked.the-variants.{Fine, Bad}
 use Rattle.tables.specs.Refusal.{Check, saidAt, First}
 use Rattle.tables.proofs.RefusalLaws as order
+use Rattle.grid.specs.Grid.{pixelAt}
+use Rattle.grid.proofs.StoredLaws.{start-length, start-at, start-past}
 use Rattle.pyramid.specs.Pyramid.{octavesOf, octaveCountOf, halfOf, halvedOf, needed, downsampleChecks, Outcome, downsampled, downsampleOf}
 use Rattle.pyramid.specs.declared.Halved.the-variants.{Sides, Refused}
 use Rattle.pyramid.proofs.HalvedLaws.{halved-pixel, pixel-before, length-halved, checks-passed}
@@ -93,22 +94,17 @@ module _ (rows cols : ℕ) (l out : List Float) where
   buffer-length : (w : Checked) → (w ≡ Fine → needed rows cols ≤ length out) → length (left w .buffer) ≡ length out
   unfolding downsampled
   buffer-length (Bad q) h = refl
-  buffer-length Fine h =
-      let halved = halvedOf rows cols l in
-      omega (arith, length-append halved (drop (length halved) out), length-drop (length halved) out, length-halved rows cols l, h refl)
+  buffer-length Fine h = start-length (halvedOf rows cols l) out (omega (arith, length-halved rows cols l, h refl))
 
   buffer-past : (w : Checked) (i : ℕ) → needed rows cols ≤ i → getD (left w .buffer) i nan ≡ getD out i nan
   unfolding downsampled
   buffer-past (Bad q) i h = refl
-  buffer-past Fine i h =
-      let halved = halvedOf rows cols l in
-      let e : length halved + (i - length halved) ≡ i = omega (arith, length-halved rows cols l) in
-      rw (← e, getD-append-add halved, getD-drop (length halved) out)
+  buffer-past Fine i h = start-past (halvedOf rows cols l) out i (omega (arith, length-halved rows cols l))
 
   buffer-halved : (w : Checked) → w ≡ Fine → (i : ℕ) → i < needed rows cols → getD (left w .buffer) i nan ≡ getD (halvedOf rows cols l) i nan
   unfolding downsampled
   buffer-halved (Bad q) e i h = cc
-  buffer-halved Fine e i h = List·getD-append (halvedOf rows cols l) _ nan i (omega (arith, length-halved rows cols l))
+  buffer-halved Fine e i h = start-at (halvedOf rows cols l) out i (omega (arith, length-halved rows cols l))
 
 -- ---- a call
 
@@ -126,10 +122,11 @@ module _ (rows cols : ℕ) (l out : List Float) where
 
   -- the result's pixel (r, c) is the level's (2r, 2c); the result lies by columns of rows/2
   pub pixel-taken : (h w : ℕ) → after .answer ≡ Sides h w → (r c : ℕ) → r < rows / 2 → c < cols / 2
-      → getD (after .buffer) (c * (rows / 2) + r) nan ≡ getD l (2 * c * rows + 2 * r) nan
-  unfolding downsampleOf
+      → pixelAt (after .buffer) (rows / 2) r c ≡ pixelAt l rows (2 * r) (2 * c)
+  unfolding downsampleOf pixelAt
   pixel-taken h w e r c p q =
-      buffer-halved rows cols l out _ (answer-halved rows cols l out _ h w e .0) _ (pixel-before rows cols r c p q) ∙ halved-pixel rows cols l r c p q
+      let taken = halved-pixel rows cols l r c p q in
+      buffer-halved rows cols l out _ (answer-halved rows cols l out _ h w e .0) _ (pixel-before rows cols r c p q) ∙ taken
 
   -- what lies past the result is kept
   pub past-kept : (i : ℕ) → needed rows cols ≤ i → getD (after .buffer) i nan ≡ getD out i nan

@@ -1,16 +1,15 @@
 -- How many octaves a map has, a level halved, and what halving answers, refusals too. Definitions only.
-use Prim.Native.Nat.{ℕ, zero, suc, _+_, _*_, _/_, _≤_, min}
+use Prim.Native.Nat.{ℕ, _+_, _*_, _/_, _≤_, min}
 use mathlib.Core.Bool.{cond, not, _||_}
-use mathlib.Core.List.{List, [], _∷_, _++_}
-use mathlib.Core.Path.{_≡_}
-use lib.ListN.{length, getD, drop}
-use lib.Seq.{sets}
+use mathlib.Core.List.{List, [], _∷_}
+use lib.ListN.{length, getD}
 use lib.Dec.{ltb, leb, eqb}
 use lib.Ieee.{Float, nan}
 use Rattle.tables.specs.Refusal.{Check, _when_, firstOf, sidesCheck}
 use Rattle.tables.specs.declared.Refusal.the-variants.{Level, Room}
 use Rattle.tables.specs.declared.Checked.{Checked}
 use Rattle.tables.specs.declared.Checked.the-variants.{Fine, Bad}
+use Rattle.grid.specs.Grid.{pixelAt, columnsOf, atStart}
 use Rattle.pyramid.specs.declared.Halved.{Halved}
 use Rattle.pyramid.specs.declared.Halved.the-variants.{Sides, Refused}
 
@@ -32,19 +31,17 @@ octaveCountOf rows cols = octavesOf (min rows cols)
 unfoldable pub halfOf : ℕ → ℕ → ℕ
 halfOf side other = cond (ltb side 2 || ltb other 2) 0 (side / 2)
 
--- every second of a level's floats from place p on, n of them
-unfoldable pub columnOf : List Float → ℕ → ℕ → List Float
-columnOf l p zero = []
-columnOf l p (suc n) = columnOf l p n ++ (getD l (p + 2 * n) nan ∷ [])
+-- every second of a level's floats from place p on
+abbrev pub secondOf : List Float → ℕ → ℕ → Float
+secondOf l p r = getD l (p + 2 * r) nan
 
--- the first n columns of the halved level, height floats each: pixel (r, c) is taken from (2r, 2c), and (row, col) is at col*rows + row
-unfoldable pub columnsOf : List Float → ℕ → ℕ → ℕ → List Float
-columnsOf l rows height zero = []
-columnsOf l rows height (suc n) = columnsOf l rows height n ++ columnOf l (2 * n * rows) height
+-- pixel (r, c) of the halved level is the level's (2r, 2c)
+abbrev pub takenOf : List Float → ℕ → ℕ → ℕ → Float
+takenOf l rows r c = pixelAt l rows (2 * r) (2 * c)
 
 -- the halved level: rows/2 by cols/2, rounded down; a side under 2 gives 0 by 0
 unfoldable pub halvedOf : ℕ → ℕ → List Float → List Float
-halvedOf rows cols l = columnsOf l rows (halfOf rows cols) (halfOf cols rows)
+halvedOf rows cols l = columnsOf (takenOf l rows) (halfOf rows cols) (halfOf cols rows)
 
 -- how many floats the halved level needs
 unfoldable pub needed : ℕ → ℕ → ℕ
@@ -57,10 +54,6 @@ pub record Halves (n room rows height width : ℕ) : Type 0 where
   pub inside : 2 * width * rows ≤ n
   pub most : n ≤ 16777216
   pub fits : width * height ≤ room
-
--- what a function that stores fs from place at on leaves
-pub record Stored (out out' : List Float) (at : ℕ) (fs : List Float) : Type 0 where
-  pub floats : out' ≡ sets out at fs
 
 -- ---- refusals
 
@@ -83,7 +76,7 @@ outcome a b = record { answer = a; buffer = b }
 -- a refusal writes nothing; otherwise the new sides are answered, the halved level is written, and what lies past it is kept
 unfoldable pub downsampled : Checked → ℕ → ℕ → List Float → List Float → Outcome
 downsampled (Bad r) rows cols l out = outcome (Refused r) out
-downsampled Fine rows cols l out = let h = halvedOf rows cols l in outcome (Sides (halfOf rows cols) (halfOf cols rows)) (h ++ drop (length h) out)
+downsampled Fine rows cols l out = outcome (Sides (halfOf rows cols) (halfOf cols rows)) (atStart (halvedOf rows cols l) out)
 
 -- the whole of downsample
 unfoldable pub downsampleOf : ℕ → ℕ → List Float → List Float → Outcome

@@ -3,7 +3,8 @@ ghost use mathlib.Core.Path.{_≡_};
 ghost use Prim.Native.Nat.{_+_, _*_, _≤_};
 ghost use lib.ListN.{length};
 ghost use Rattle.tables.specs.Refusal.{firstOf};
-ghost use Rattle.pyramid.specs.Pyramid.{halfOf, columnOf, columnsOf, Halves, Stored, downsampleChecks};
+ghost use Rattle.grid.specs.Grid.{listOf, columnsOf, Stored};
+ghost use Rattle.pyramid.specs.Pyramid.{halfOf, secondOf, takenOf, Halves, downsampleChecks};
 use tables::Checked;
 use tables::Refusal;
 
@@ -39,7 +40,7 @@ pub fn checked(n: usize, room: usize, rows: usize, cols: usize) -> Checked
 fn halve_column(level: &[f32], p: usize, n: usize, out: &mut [f32], at: usize)
     requires { ⌜ p + 2 * n ≤ length (now level) ⌝ }
     requires { ⌜ at + n ≤ length (now out) ⌝ }
-    ensures { λ _. ⌜ Stored (now (out .entry)) (now (out .exit)) at (columnOf (now (level .entry)) p n) ⌝ }
+    ensures { λ _. ⌜ Stored (now (out .entry)) (now (out .exit)) at (listOf (secondOf (now (level .entry)) p) n) ⌝ }
 {
     let mut r: usize = 0;
     while r < n {
@@ -51,7 +52,7 @@ fn halve_column(level: &[f32], p: usize, n: usize, out: &mut [f32], at: usize)
 // The halved level goes to the buffer's start.
 pub fn halve_level(level: &[f32], rows: usize, height: usize, width: usize, out: &mut [f32])
     requires { ⌜ Halves (length (now level)) (length (now out)) rows height width ⌝ }
-    ensures { λ _. ⌜ Stored (now (out .entry)) (now (out .exit)) 0 (columnsOf (now (level .entry)) rows height width) ⌝ }
+    ensures { λ _. ⌜ Stored (now (out .entry)) (now (out .exit)) 0 (columnsOf (takenOf (now (level .entry)) rows) height width) ⌝ }
 {
     let mut c: usize = 0;
     while c < width {

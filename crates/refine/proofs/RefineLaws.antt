@@ -17,7 +17,7 @@ use Rattle.refine.specs.Refine.{valuesOf, edgeOf, indexOf, spatialBy, de
 use Rattle.refine.specs.declared.Spot.{Spot}
 use Rattle.refine.specs.declared.Refined.{Refined}
 use Rattle.refine.specs.declared.Refined.the-variants.{Accepted, Rejected}
-use Rattle.fit.proofs.Finite.{sum-finite, difference-finite, product-finite}
+use Rattle.float.proofs.Finite.{sum-finite, difference-finite, product-finite}
 
 -- ---- the gates on the way to an acceptance
 

@@ -1,6 +1,6 @@
 -- Laws of a sample's five pixels, of the nine places, and of which pixels lie inside.
 use Prim.Native.Nat.{ℕ, zero, suc, _+_, _-_, _*_, _/_, _%_, _≤_, _<_}
-use native.Mathlib.Nat.{not-suc-le-zero, le-of-suc-le-suc, ne-of-lt, mul-le-mul, mul-le-mul-right, mul-comm, suc-mul, add-mul}
+use native.Mathlib.Nat.{not-suc-le-zero, le-of-suc-le-suc, ne-of-lt, mul-le-mul-right, mul-comm, suc-mul, add-mul}
 use native.Mathlib.Omega.{arith}
 use mathlib.Core.Path.{_≡_, refl, sym, ap, _∙_}
 use mathlib.Core.List.{List, []}
@@ -9,7 +9,9 @@ use lib.Seq.{ext-getD, getD-set-same, getD-set-other}
 use lib.Ieee.{Float, nan}
 use borrow.Author.Count.{below-more}
 use Rattle.pixel.specs.declared.Frame.{Frame}
-use Rattle.samples.specs.Level.{pixelAt, stencilOf, sampleAt, placesOf, nineOf, Inner, Within, Sized}
+use Rattle.grid.specs.Grid.{pixelAt}
+use Rattle.grid.proofs.GridLaws.{area}
+use Rattle.samples.specs.Level.{stencilOf, sampleAt, placesOf, nineOf, Inner, Within, Sized}
 
 -- ---- a sample's five pixels
 
@@ -41,9 +43,6 @@ within-place i h w = record { top = omega arith; bottom = omega arith; left = om
 -- a pixel two off the sides is one off them
 pub within-less : {row col : ℕ} {f : Frame} → Within 2 f row col → Within 1 f row col
 within-less w = record { top = omega arith; bottom = omega arith; left = omega arith; right = omega arith }
-
-pub area : {a b : ℕ} → a ≤ 4096 → b ≤ 4096 → a * b ≤ 16777216
-area = mul-le-mul
 
 pub inner : {n n0 n1 n2 n3 row col : ℕ} {f : Frame} → Sized f n0 n1 n2 n3 → n ≡ f .rows * f .cols → Within 1 f row col → Inner n (f .rows) row col
 inner {row = row} {col = col} {f = f} sized long w = record {

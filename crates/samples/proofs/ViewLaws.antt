@@ -6,7 +6,8 @@ use mathlib.Core.Path.{_≡_, ap}
 use mathlib.Core.List.{List}
 use lib.ListN.{length, getD, List·getD-eq-default}
 use lib.Ieee.{Float, nan}
-use Rattle.samples.specs.Level.{pixelAt, stencilOf, sampleAt}
+use Rattle.grid.specs.Grid.{pixelAt}
+use Rattle.samples.specs.Level.{stencilOf, sampleAt}
 use Rattle.samples.proofs.LevelLaws.{right-place, down-place}
 
 -- ---- the place of a pixel

@@ -5,6 +5,7 @@ use mathlib.Core.Path.{_≡_}
 use lib.ListN.{getD}
 use lib.Ieee.{Float, nan}
 use Rattle.float.specs.Num.{_⊕_, _⊖_, _⊗_, f4}
+use Rattle.grid.specs.Grid.{pixelAt}
 use Rattle.tables.specs.declared.Set.{Set}
 use Rattle.tables.specs.declared.Thresholds.{Thresholds}
 use Rattle.pixel.specs.declared.Frame.{Frame}
@@ -22,10 +23,6 @@ pub record Maps : Type 0 where
 -- these, given one by one
 abbrev pub mapsOf : List Float → List Float → List Float → List Float → Frame → Set → Thresholds → Maps
 mapsOf l0 l1 l2 l3 f s th = record { l0 = l0; l1 = l1; l2 = l2; l3 = l3; frame = f; set = s; thresholds = th }
-
--- a level is rows times cols f32, by columns: (row, col) is at col*rows + row
-unfoldable pub pixelAt : List Float → ℕ → ℕ → ℕ → Float
-pixelAt l rows row col = getD l (col * rows + row) nan
 
 -- (left + right + up + down - 4*centre) * sigma squared
 unfoldable pub stencilOf : Float → Float → Float → Float → Float → Float → Float

@@ -4,7 +4,8 @@ ghost use mathlib.Core.Path.{_≡_};
 ghost use Prim.Native.Nat.{_+_, _-_, _*_, min};
 ghost use lib.ListN.{getD};
 ghost use lib.Ieee.{nan};
-ghost use Rattle.samples.specs.Level.{pixelAt, sampleAt};
+ghost use Rattle.grid.specs.Grid.{pixelAt};
+ghost use Rattle.samples.specs.Level.{sampleAt};
 
 // A level's pixels, by columns, and how many rows it has.
 pub struct LevelView<'a> {

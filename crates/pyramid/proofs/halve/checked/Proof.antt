@@ -4,7 +4,8 @@ use borrow.Author.Tests.{lt-ltb, le-ltb, eq-eqb, ne-eqb}
 use Rattle.tables.specs.Refusal.{unless, firstOf}
 use Rattle.tables.proofs.RefusalLaws.{sides-most}
 use Rattle.pyramid.specs.Pyramid.{halfOf, downsampleChecks, needed}
-use Rattle.pyramid.proofs.HalvedLaws.{area, half-twice}
+use Rattle.grid.proofs.GridLaws.{area}
+use Rattle.pyramid.proofs.HalvedLaws.{half-twice}
 use borrow.Author.Needs.{needs}
 use Rattle.pyramid.proofs.halve.checked.Statement.{statement}
 use Rattle.pyramid.proofs.halve.checked.Tie as tie

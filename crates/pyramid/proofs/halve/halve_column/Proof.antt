@@ -1,22 +1,21 @@
 -- `halve::halve_column` meets its contract. The loop's invariant: the first r floats of the column are stored.
-use mathlib.Core.Path.{_≡_}
-use Prim.Native.Nat.{_+_, _≤_, _-_}
-use native.Mathlib.Numerals.{add-one}
+use mathlib.Core.Path.{_≡_, refl}
+use Prim.Native.Nat.{_≤_, _-_}
 use native.Mathlib.Omega.{arith}
-use lib.ListN.{length}
-use Rattle.pyramid.specs.Pyramid.{columnOf, Stored}
-use Rattle.pyramid.proofs.HalvedLaws.{length-column, stored-none, stored-one, stored-append, stored-length}
+use Rattle.grid.specs.Grid.{listOf, Stored}
+use Rattle.grid.proofs.StoredLaws.{stored-none, stored-next, stored-length}
+use Rattle.pyramid.specs.Pyramid.{secondOf}
 use Rattle.pyramid.proofs.halve.halve_column.Statement.{statement}
 use Rattle.pyramid.proofs.halve.halve_column.Tie as tie
 
 abbrev Inv-loop : tie.InvT-loop
-Inv-loop level p n out₀ at r₀ out r = (r ≤ n) × Stored out₀ out at (columnOf level p r)
+Inv-loop level p n out₀ at r₀ out r = (r ≤ n) × Stored out₀ out at (listOf (secondOf level p) r)
 
 abbrev μ-loop : tie.MeasureT-loop
 μ-loop level p n out₀ at r₀ out r = n - r
 
 loop-holds : tie.Need-loop-holds Inv-loop μ-loop
-unfolding columnOf
+unfolding listOf
 loop-holds c = (omega arith, stored-none)
 
 mul-out : tie.Need-mul-out Inv-loop μ-loop
@@ -47,12 +46,7 @@ loop-less : tie.Need-loop-less Inv-loop μ-loop
 loop-less c = omega arith
 
 loop-again : tie.Need-loop-again Inv-loop μ-loop
-unfolding columnOf
-loop-again c =
-    let a = c .before .before .before .args in
-    let l = c .before .before .loop in
-    let next : a .at + l .r ≡ a .at + length (columnOf (a .level .now) (a .p) (l .r)) = omega (arith, length-column (a .level .now) (a .p) (l .r)) in
-    (omega arith, rw add-one (stored-append (l .inv .1) next stored-one))
+loop-again c = (omega arith, stored-next _ (c .before .before .loop .inv .1) refl)
 
 same-length : tie.Need-same-length Inv-loop μ-loop
 same-length c = stored-length (c .before .loop .inv .1)

@@ -4,13 +4,16 @@ use Prim.Native.Nat.{_+_, _*_, _≤_, _-_}
 use native.Mathlib.Numerals.{add-one}
 use native.Mathlib.Omega.{arith}
 use lib.ListN.{length}
-use Rattle.pyramid.specs.Pyramid.{columnsOf, Stored}
-use Rattle.pyramid.proofs.HalvedLaws.{length-columns, stored-none, stored-append, stored-length, column-inside}
+use Rattle.grid.specs.Grid.{pixelAt, columnsOf, Stored}
+use Rattle.grid.proofs.GridLaws.{length-columns}
+use Rattle.grid.proofs.StoredLaws.{stored-none, stored-append, stored-length}
+use Rattle.pyramid.specs.Pyramid.{takenOf}
+use Rattle.pyramid.proofs.HalvedLaws.{column-inside}
 use Rattle.pyramid.proofs.halve.halve_level.Statement.{statement}
 use Rattle.pyramid.proofs.halve.halve_level.Tie as tie
 
 abbrev Inv-loop : tie.InvT-loop
-Inv-loop level rows height width out₀ c₀ out c = (c ≤ width) × Stored out₀ out 0 (columnsOf level rows height c)
+Inv-loop level rows height width out₀ c₀ out c = (c ≤ width) × Stored out₀ out 0 (columnsOf (takenOf level rows) height c)
 
 abbrev μ-loop : tie.MeasureT-loop
 μ-loop level rows height width out₀ c₀ out c = width - c
@@ -42,11 +45,11 @@ loop-less : tie.Need-loop-less Inv-loop μ-loop
 loop-less c = omega arith
 
 loop-again : tie.Need-loop-again Inv-loop μ-loop
-unfolding columnsOf
+unfolding columnsOf pixelAt
 loop-again c =
     let a = c .before .before .before .before .before .before .before .before .args in
     let l = c .before .before .before .before .before .loop in
-    let next : l .c * a .height ≡ 0 + length (columnsOf (a .level .now) (a .rows) (a .height) (l .c)) = omega (arith, length-columns (a .level .now) (a .rows) (a .height) (l .c)) in
+    let next : l .c * a .height ≡ 0 + length (columnsOf (takenOf (a .level .now) (a .rows)) (a .height) (l .c)) = omega (arith, length-columns (takenOf (a .level .now) (a .rows)) (a .height) (l .c)) in
     (omega arith, rw add-one (stored-append (l .inv .1) next (c .before .before .halve-column .ensures)))
 
 same-length : tie.Need-same-length Inv-loop μ-loop

@@ -1,7 +1,7 @@
 -- `view::pixel_at` meets its contract: no places after is the pixel's own.
 use mathlib.Core.Path.{_∙_}
 use native.Mathlib.Nat.{add-zero}
-use Rattle.samples.specs.Level.{pixelAt}
+use Rattle.grid.specs.Grid.{pixelAt}
 use borrow.Author.Needs.{needs}
 use Rattle.samples.proofs.view.pixel_at.Statement.{statement}
 use Rattle.samples.proofs.view.pixel_at.Tie as tie

@@ -37,7 +37,7 @@ use denote.Triple.Table.{entered, cited}
 use denote.Triple.Walked.{says, Stays, stay-none, walkOf, AllGo, goes-none, Walks, ends-at, walked, walk-meets}
 use denote.Triple.Clauses.{ensured, lasts}
 use denote.Exit.{yes}
-use Rattle.samples.specs.Level.{pixelAt}
+use Rattle.grid.specs.Grid.{pixelAt}
 use Rattle.samples.specs.declared.view.LevelView.{LevelView}
 use Rattle.samples.proofs.view.LevelView as LevelViewRow
 use Rattle.samples.proofs.view.LevelView.Laws as LevelViewLaws

@@ -1,0 +1,72 @@
+-- `lines::weigh` meets its contract. The loop's invariant: the first i floats are stored.
+use Prim.Native.Nat.{_+_, _≤_, _-_}
+use native.Mathlib.Omega.{arith}
+use mathlib.Core.Path.{_≡_, refl}
+use Rattle.grid.specs.Grid.{listOf, Stored}
+use Rattle.grid.proofs.StoredLaws.{stored-none, stored-next, stored-rest, stored-length}
+use Rattle.blur.specs.Lines.{weighed}
+use Rattle.blur.proofs.lines.weigh.Statement.{statement}
+use Rattle.blur.proofs.lines.weigh.Tie as tie
+
+abbrev Inv-loop : tie.InvT-loop
+Inv-loop list p n w out₀ at i₀ out i = (i ≤ n) × Stored out₀ out at (listOf (weighed list p w) i)
+
+abbrev μ-loop : tie.MeasureT-loop
+μ-loop list p n w out₀ at i₀ out i = n - i
+
+loop-holds : tie.Need-loop-holds Inv-loop μ-loop
+unfolding listOf
+loop-holds c = (omega arith, stored-none)
+
+add-out : tie.Need-add-out Inv-loop μ-loop
+add-out c = omega arith
+
+mul-out : tie.Need-mul-out Inv-loop μ-loop
+mul-out c = omega arith
+
+shared-slice-read-out : tie.Need-shared-slice-read-out Inv-loop μ-loop
+shared-slice-read-out c = omega arith
+
+add-out-2 : tie.Need-add-out-2 Inv-loop μ-loop
+add-out-2 c = omega arith
+
+mul-out-2 : tie.Need-mul-out-2 Inv-loop μ-loop
+mul-out-2 c = omega arith
+
+slice-write-out : tie.Need-slice-write-out Inv-loop μ-loop
+slice-write-out c = omega (arith, stored-length (c .before .before .loop .inv .1))
+
+add-i : tie.Need-add-i Inv-loop μ-loop
+add-i c = omega arith
+
+loop-less : tie.Need-loop-less Inv-loop μ-loop
+loop-less c = omega arith
+
+loop-again : tie.Need-loop-again Inv-loop μ-loop
+unfolding weighed
+loop-again c = (omega arith, stored-next _ (c .before .before .loop .inv .1) refl)
+
+same-length : tie.Need-same-length Inv-loop μ-loop
+same-length c = stored-length (c .before .loop .inv .1)
+
+returns : tie.Need-returns Inv-loop μ-loop
+returns c = let end : c .before .loop .i ≡ c .before .before .args .n = omega arith in rw end at (c .before .loop .inv .1)
+
+pub weigh-spec : {M : Type 1} → statement M
+weigh-spec =
+    tie.close
+    (tie.spec
+    Inv-loop
+    μ-loop
+    loop-holds
+    add-out
+    mul-out
+    shared-slice-read-out
+    add-out-2
+    mul-out-2
+    slice-write-out
+    add-i
+    loop-less
+    loop-again
+    same-length
+    returns)

@@ -1,0 +1,2 @@
+-- Maps that lie by columns. The public promises cite these.
+pub mod Grid

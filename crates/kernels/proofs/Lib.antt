@@ -1,0 +1,3 @@
+-- Laws of the kernels: the number rounded up, and the radii.
+pub mod Ceil
+pub mod Radii

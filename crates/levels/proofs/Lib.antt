@@ -1,0 +1,2 @@
+-- What the promise of levels settles.
+pub mod LevelsLaws

@@ -1,0 +1,2 @@
+-- The four levels of a raw map. The public promises cite these.
+pub mod Levels
