@@ -5,8 +5,8 @@ use native.Mathlib.Numerals.{add-one}
 use native.Mathlib.Omega.{arith}
 use mathlib.Core.Path.{_≡_, refl, sym, ap, _∙_}
 use mathlib.Core.Logic.{⊎-elim}
-use mathlib.Core.List.{List, [], _∷_, _++_}
-use lib.ListN.{length, getD, drop, set, length-set, length-append, length-drop, List·getD-append}
+use mathlib.Core.List.{List, [], _∷_, _++_, append-nil}
+use lib.ListN.{length, getD, drop, drop-of-length-le, set, length-set, length-append, length-drop, List·getD-append}
 use lib.Seq.{sets, length-sets, sets-eq, ext-getD, getD-set-same, getD-set-other, getD-append-add, getD-drop}
 use lib.Ieee.{Float, nan}
 use Rattle.words.proofs.Stores.{sets-append}
@@ -133,3 +133,7 @@ pub start-past : (fs out : List Float) (i : ℕ) → length fs ≤ i → getD (a
 start-past fs out i h =
     let e : length fs + (i - length fs) ≡ i = omega arith in
     rw (← e, getD-append-add fs, getD-drop (length fs) out)
+
+-- where they fill the buffer, nothing else is left
+pub start-exact : (fs out : List Float) → length out ≡ length fs → atStart fs out ≡ fs
+start-exact fs out e = ap (λ (rest : List Float). fs ++ rest) (drop-of-length-le out {i = length fs} (omega (arith, e))) ∙ append-nil fs

@@ -20,7 +20,7 @@ use Rattle.tables.proofs.RefusalLaws as order
 use Rattle.tables.proofs.RefusalLaws.{unless-fine, sides-most}
 use Rattle.grid.specs.Grid.{pixelAt, Stored}
 use Rattle.grid.proofs.GridLaws.{before-last}
-use Rattle.grid.proofs.StoredLaws.{stored-start, start-length, start-at, start-past}
+use Rattle.grid.proofs.StoredLaws.{stored-start, start-length, start-at, start-past, start-exact}
 use Rattle.kernels.specs.declared.Kernel.{Kernel}
 use Rattle.kernels.specs.Kernel.{kernelsOf}
 use Rattle.blur.specs.Blur.{levelOf, levelAt}
@@ -83,6 +83,11 @@ module _ (s : Set) (rows cols octave : ℕ) (raw : List Float) (n : ℕ) (out : 
   pub placed-length : rows * cols ≤ length out → length (placed s rows cols octave raw n out) ≡ length out
   unfolding placed
   placed-length h = start-length (levelOf raw rows cols kernel) out (omega (arith, length-level raw rows cols kernel, mul-comm rows cols))
+
+  -- a buffer as long as the map holds the level and nothing else
+  pub placed-exact : length out ≡ rows * cols → placed s rows cols octave raw n out ≡ levelOf raw rows cols kernel
+  unfolding placed
+  placed-exact h = start-exact (levelOf raw rows cols kernel) out (omega (arith, h, length-level raw rows cols kernel, mul-comm rows cols))
 
 -- ---- over the outcome of the checks
 

@@ -16,6 +16,9 @@ use Rattle.checks.proofs.checked as checked
 use Rattle.alp.proofs.detect as detect
 use Rattle.join.proofs.join as join
 use Rattle.size.proofs.correct as correct
+use Rattle.kernels.proofs.gauss.gaussian as gaussian
+use Rattle.kernels.proofs.gauss.octave_kernel as octave-kernel
+use Rattle.levels.proofs.levels as levels
 use Rattle.pyramid.proofs.octave_count as octave-count
 use Rattle.pyramid.proofs.downsample as downsample
 use Rattle.samples.proofs.view.pixel_at as pixel-at
@@ -68,6 +71,17 @@ module _ {M : Type 1} (𝓤 : URA M) (H : Heap 𝓤) (A : Atoms 𝓤) (mem : Mem
 
   pub downsample-settled : Settles 𝓤 downsample.ended (downsample.clauses 𝓤 H A mem run)
   downsample-settled κs a g g' r r' ws ws' = one-value 𝓤 _ _ _ (λ x. x .answer) (λ x. untouched 3 (x .buffer, tt))
+
+  -- ---- the kernels, and the levels of a raw map
+
+  pub gaussian-settled : Settles 𝓤 gaussian.ended (gaussian.clauses 𝓤 H A mem run)
+  gaussian-settled κs a g g' r r' ws ws' = one-answer 𝓤 _
+
+  pub octave-kernel-settled : Settles 𝓤 octave-kernel.ended (octave-kernel.clauses 𝓤 H A mem run)
+  octave-kernel-settled κs a g g' r r' ws ws' = one-answer 𝓤 _
+
+  pub levels-settled : Settles 𝓤 levels.ended (levels.clauses 𝓤 H A mem run)
+  levels-settled κs a g g' r r' ws ws' = one-value 𝓤 _ _ _ (λ x. x .answer) (λ x. untouched 5 (x .l0, (x .l1, (x .l2, (x .l3, tt)))))
 
   -- ---- a level and its view
 

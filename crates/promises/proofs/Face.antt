@@ -11,6 +11,7 @@ use Rattle.alp_c.proofs.uramsheg_join as uramsheg-join
 use Rattle.alp_c.proofs.uramsheg_correct as uramsheg-correct
 use Rattle.alp_c.proofs.uramsheg_octave_count as uramsheg-octave-count
 use Rattle.alp_c.proofs.uramsheg_downsample as uramsheg-downsample
+use Rattle.alp_c.proofs.uramsheg_levels as uramsheg-levels
 use Rattle.alp_c.proofs.uramsheg_set_check as uramsheg-set-check
 use Rattle.promises.specs.Settles.{Settles}
 use Rattle.promises.proofs.Facts.{one-value, one-answer, untouched}
@@ -33,3 +34,6 @@ module _ {M : Type 1} (𝓤 : URA M) (H : Heap 𝓤) (A : Atoms 𝓤) (mem : Mem
 
   pub uramsheg-set-check-settled : Settles 𝓤 uramsheg-set-check.ended (uramsheg-set-check.clauses 𝓤 H A mem run)
   uramsheg-set-check-settled κs a g g' r r' ws ws' = one-answer 𝓤 _
+
+  pub uramsheg-levels-settled : Settles 𝓤 uramsheg-levels.ended (uramsheg-levels.clauses 𝓤 H A mem run)
+  uramsheg-levels-settled κs a g g' r r' ws ws' = one-value 𝓤 _ _ _ (λ x. x .number) (λ x. untouched 5 (x .l0, (x .l1, (x .l2, (x .l3, tt)))))
