@@ -1,2 +1,3 @@
 -- What the exported inner functions answer.
 pub mod Probe
+pub mod Blurs

@@ -8,6 +8,11 @@ ghost use Rattle.fit.specs.Owns.{ownsOf};
 ghost use Rattle.probe.specs.Probe.{cubicOf, endOf, envelopePart, extremaPart, levelOf, spatialPart, freshOf, refinePart, statisticPart, betaPart, blendPart, boundedPart, modelPart};
 
 mod parts;
+mod blurs; // blurs.rt: kernels, and levels by kernels given
+
+pub use blurs::probe_blur;
+pub use blurs::probe_gaussian;
+pub use blurs::probe_kernel;
 
 #[no_mangle]
 pub extern "C" fn probe_cubic(

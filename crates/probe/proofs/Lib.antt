@@ -1,0 +1,2 @@
+-- What fits can be blurred.
+mod Fitting
