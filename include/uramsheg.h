@@ -1,10 +1,11 @@
-/* Uramsheg's detector: lists the spots of a gas map from its four blurred levels, and gives each its size. Proved in Rattle; see docs/PROMISES.md.
+/* Uramsheg's detector: makes the four blurred levels of a raw gas map, lists the spots of four levels, and gives each its size. Proved in Rattle; see
+ * docs/PROMISES.md.
  *
  * Link with libalp_c.a (`tests/staticlib alp_c` writes target/staticlib/libalp_c.a); it needs nothing else.
  * Every call ends, whatever it is given. A slice is a pointer and its length in elements; a pointer must be valid for that length, and what is written to
  * must overlap nothing else.
  *
- * A level: rows * cols floats by columns, pixel (row, col) at col * rows + row. Sides are 0 to 4096.
+ * A raw map, and a level: rows * cols floats by columns, pixel (row, col) at col * rows + row. Sides are 0 to 4096.
  *
  * A set record (528 bytes, little-endian): 4 sigmas; 12 scale cubic entries and 12 geometry cubic entries (rows a, b, c, d of three); 45 spatial
  * entries (rows w1 to w5 of nine) for scale index 1, then 45 for 2; 11 numbers (log sigma origin, curvature epsilon, fit T min, T max, accepted sigma
@@ -44,14 +45,29 @@ enum { URAMSHEG_SET_BYTES = 528, URAMSHEG_SPOT_BYTES = 40, URAMSHEG_SIZED_BYTES 
 enum {
     URAMSHEG_DONE = 0,
     URAMSHEG_REFUSED_SIZE = 1,      /* rows or cols above 4096: cut the map into tiles */
-    URAMSHEG_REFUSED_LEVEL = 2,     /* a level is not rows * cols long */
+    URAMSHEG_REFUSED_LEVEL = 2,     /* a level, or the raw map, is not rows * cols long */
     URAMSHEG_REFUSED_OCTAVE = 3,    /* octave above 5 */
     URAMSHEG_REFUSED_SET = 4,       /* the set record is not 528 bytes long or not good */
     URAMSHEG_REFUSED_RECORDS = 5,   /* the list is no whole number of records (*value is how many are whole), or holds a bad one (*value is its index) */
-    URAMSHEG_REFUSED_ROOM = 6,      /* the output is shorter than needed */
+    URAMSHEG_REFUSED_ROOM = 6,      /* the output, or one of the four, is shorter than needed */
     URAMSHEG_REFUSED_NO_SIZE = 7,   /* the spot has no size */
     URAMSHEG_REFUSED_THRESHOLDS = 8 /* a threshold is not a number: one of the five is a NaN, as a blank in a sheet reads */
 };
+
+/* Blurs a raw map into its four levels, each at the start of its own buffer.
+ * The map of octave 0 has a blur of 0.5 pixels, one of octave 1 to 5 (level 2 of the octave before, halved) half the set's third sigma; level k brings it
+ * to the set's sigma k, by the incremental sigma, the root of the difference of their squares and at least 0.1. Its taps are a Gaussian's of that sigma to
+ * the radius R_k, 3 times the sigma rounded up, 1 to 16, divided by their sum; first across columns with the edge column repeated, then along rows with the
+ * edge row repeated. A pixel's sum begins with the centre and goes outward, each pair summed before it is weighted.
+ * A lost raw pixel (a NaN or an infinity) makes exactly the pixels at most R_k rows and R_k cols off non-finite in level k, and changes no other. Where
+ * the sums of finite raw pixels overflow, a level is not finite there either.
+ * Answers 0; a buffer may be longer than rows * cols, and its later floats are kept.
+ * Refused (checked in the order 1, 2, 3, 4, 6), it answers the number, and all four buffers are untouched.
+ * It takes at most some 50 KB of stack and no heap. The raw map and the four buffers must not overlap. */
+uint32_t uramsheg_levels(const uint8_t *set, size_t set_length, size_t rows, size_t cols, size_t octave,
+                         const float *raw, size_t raw_length,
+                         float *level0, size_t level0_length, float *level1, size_t level1_length,
+                         float *level2, size_t level2_length, float *level3, size_t level3_length);
 
 /* Lists the spots of four levels in `out`, by rising order key, at one key the minimum before the maximum.
  * Answers 0 and the number of spots in *value; `out` then begins with as many whole records as fit, and its later bytes are kept. A short `out` is no

@@ -1,10 +1,27 @@
-//! The detector's functions: those of the archive, and two that make room by themselves.
+//! The detector's functions: those of the archive, and three that make room by themselves.
 
 use crate::{Refusal, SIZED_BYTES, SPOT_BYTES, SizedSpot, Spot};
 
 /// A slice is passed as its start and its length.
 mod raw {
     unsafe extern "C" {
+        pub fn uramsheg_levels(
+            set: *const u8,
+            set_length: usize,
+            rows: usize,
+            cols: usize,
+            octave: usize,
+            raw: *const f32,
+            raw_length: usize,
+            l0: *mut f32,
+            l0_length: usize,
+            l1: *mut f32,
+            l1_length: usize,
+            l2: *mut f32,
+            l2_length: usize,
+            l3: *mut f32,
+            l3_length: usize,
+        ) -> u32;
         pub fn uramsheg_detect(
             set: *const u8,
             set_length: usize,
@@ -106,6 +123,40 @@ fn done<T>(number: u32, index: usize, answer: T) -> Result<T, Refusal> {
     }
     let refusal = Refusal::from_number(number, index);
     Err(refusal.expect("libalp_c.a and this crate are of different versions: build both from one"))
+}
+
+/// Blurs a raw map, rows * cols floats by columns, into its four levels, each at the start of its own slice. A longer slice is taken, and its later floats
+/// are kept. What the levels are, and how far a lost raw pixel reaches in each, stands in include/uramsheg.h.
+pub fn levels(
+    set: &[u8],
+    rows: usize,
+    cols: usize,
+    octave: usize,
+    raw: &[f32],
+    levels: [&mut [f32]; 4],
+) -> Result<(), Refusal> {
+    let [l0, l1, l2, l3] = levels;
+    // SAFETY: each pointer goes with its own slice's length, and the four that are written overlap nothing.
+    let number = unsafe {
+        raw::uramsheg_levels(
+            set.as_ptr(),
+            set.len(),
+            rows,
+            cols,
+            octave,
+            raw.as_ptr(),
+            raw.len(),
+            l0.as_mut_ptr(),
+            l0.len(),
+            l1.as_mut_ptr(),
+            l1.len(),
+            l2.as_mut_ptr(),
+            l2.len(),
+            l3.as_mut_ptr(),
+            l3.len(),
+        )
+    };
+    done(number, 0, ())
 }
 
 /// Lists the map's spots in `out`, 40 bytes each, by rising order key, at one key the minimum before the maximum. Answers the full number of spots;
@@ -229,6 +280,27 @@ pub fn check_set(set: &[u8]) -> Result<(), Refusal> {
     // SAFETY: the pointer goes with the slice's own length.
     let number = unsafe { raw::uramsheg_set_check(set.as_ptr(), set.len()) };
     done(number, 0, ())
+}
+
+/// The four levels of a raw map.
+pub fn four_levels(
+    set: &[u8],
+    rows: usize,
+    cols: usize,
+    octave: usize,
+    raw: &[f32],
+) -> Result<[Vec<f32>; 4], Refusal> {
+    // a map whose sides say another length is refused before any room is looked at
+    let mut four = [0; 4].map(|_| vec![0.0; raw.len()]);
+    let made = levels(
+        set,
+        rows,
+        cols,
+        octave,
+        raw,
+        four.each_mut().map(Vec::as_mut_slice),
+    );
+    made.map(|()| four)
 }
 
 /// The list's bytes, in as much room as the list needs.

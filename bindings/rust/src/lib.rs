@@ -10,7 +10,8 @@ mod spot;
 
 #[cfg(feature = "detector")]
 pub use detector::{
-    Map, Thresholds, check_set, correct, detect, downsample, join, octave_count, sized_spots, spots,
+    Map, Thresholds, check_set, correct, detect, downsample, four_levels, join, levels,
+    octave_count, sized_spots, spots,
 };
 pub use refusal::Refusal;
 pub use spot::{SIZED_BYTES, SPOT_BYTES, SizedSpot, Spot};

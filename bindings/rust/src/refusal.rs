@@ -3,12 +3,12 @@
 use std::fmt;
 
 /// Why a call was refused. Of the call's checks, in its order, the first that holds is answered: detection checks 1, 2, 3, 8, 4; the join 1, 4, 5 for the
-/// list's length, 5 for a record, 6; correction 4, 7; halving a level 1, 2, 6.
+/// list's length, 5 for a record, 6; correction 4, 7; halving a level 1, 2, 6; making levels 1, 2, 3, 4, 6.
 #[derive(Clone, Copy, Debug, PartialEq, Eq)]
 pub enum Refusal {
     /// 1: rows or cols above 4,096.
     Size,
-    /// 2: a level is not rows times cols long.
+    /// 2: a level, or the raw map, is not rows times cols long.
     Level,
     /// 3: the octave is above 5.
     Octave,
@@ -16,7 +16,7 @@ pub enum Refusal {
     Set,
     /// 5: the list is not a whole number of records (the index is then their number), or the record at the index is bad.
     Records { index: usize },
-    /// 6: the output is shorter than needed.
+    /// 6: the output, or one of the four, is shorter than needed.
     Room,
     /// 7: the spot has no size.
     NoSize,
@@ -62,7 +62,7 @@ impl fmt::Display for Refusal {
     fn fmt(&self, f: &mut fmt::Formatter<'_>) -> fmt::Result {
         match self {
             Refusal::Size => write!(f, "rows or cols above 4096: cut the map into tiles"),
-            Refusal::Level => write!(f, "a level is not rows * cols floats long"),
+            Refusal::Level => write!(f, "a level, or the raw map, is not rows * cols floats long"),
             Refusal::Octave => write!(f, "the octave is above 5"),
             Refusal::Set => write!(
                 f,
