@@ -1,0 +1,153 @@
+/* Makes levels from C: each refusal in its order, what is kept, how far a lost pixel reaches. Says what failed. */
+#include <inttypes.h>
+#include <math.h>
+#include <stdint.h>
+#include <stdio.h>
+#include <stdlib.h>
+#include <string.h>
+
+#include "uramsheg.h"
+
+static const float kept = -7.25f;
+static int failures = 0;
+
+static void expect(const char *name, bool holds) {
+    printf("%s C levels: %s\n", holds ? "ok" : "FAILED", name);
+    failures += !holds;
+}
+
+/* A set with these sigmas, and nothing else but zeros: good. */
+static void set_of(uint8_t set[URAMSHEG_SET_BYTES], const float sigmas[4]) {
+    memset(set, 0, URAMSHEG_SET_BYTES);
+    memcpy(set, sigmas, 16); /* the record is little-endian, as this machine is */
+}
+
+static float *filled(size_t length, float x) {
+    float *all = malloc((length ? length : 1) * sizeof *all);
+    if (!all) exit(2);
+    for (size_t i = 0; i < length; i++) all[i] = x;
+    return all;
+}
+
+static bool all_are(const float *floats, size_t from, size_t to, float x) {
+    for (size_t i = from; i < to; i++)
+        if (memcmp(floats + i, &x, sizeof x)) return false;
+    return true;
+}
+
+typedef struct { uint32_t answer; float *level[4]; } made;
+
+/* A call with buffers of these lengths, each filled before it. */
+static made make(const uint8_t *set, size_t set_length, size_t rows, size_t cols, size_t octave, const float *raw, size_t raw_length, const size_t lengths[4]) {
+    made m;
+    for (int k = 0; k < 4; k++) m.level[k] = filled(lengths[k], kept);
+    m.answer = uramsheg_levels(set, set_length, rows, cols, octave, raw, raw_length, m.level[0], lengths[0], m.level[1], lengths[1],
+                               m.level[2], lengths[2], m.level[3], lengths[3]);
+    return m;
+}
+
+static void drop(made m) {
+    for (int k = 0; k < 4; k++) free(m.level[k]);
+}
+
+/* What is wrong with a call: any of a side, the raw map's length, the octave, the set, one of the four levels' lengths (1 to 4). */
+typedef struct { size_t rows, cols, off, octave; int set, level; } wrong;
+
+static bool refused_first(wrong w) {
+    static const float sigmas[4] = {1, 2, 3, 4}, falling[4] = {1, 2, 2, 4};
+    uint8_t set[URAMSHEG_SET_BYTES];
+    size_t pixels = w.rows * w.cols, lengths[4] = {pixels, pixels, pixels, pixels};
+    if (w.level) lengths[w.level - 1]--;
+    set_of(set, w.set == 2 ? falling : sigmas);
+    float *raw = filled(pixels + w.off, 1);
+    made m = make(set, sizeof set - (w.set == 1), w.rows, w.cols, w.octave, raw, pixels + w.off, lengths);
+    uint32_t due = w.rows > 4096 || w.cols > 4096 ? 1 : w.off ? 2 : w.octave > 5 ? 3 : w.set ? 4 : w.level ? 6 : 0;
+    bool holds = m.answer == due;
+    for (int k = 0; k < 4 && due; k++) holds = holds && all_are(m.level[k], 0, lengths[k], kept);
+    drop(m);
+    free(raw);
+    return holds;
+}
+
+/* Every choice of things that are wrong: the first in the order 1, 2, 3, 4, 6 is answered, and nothing is written. */
+static void refusals(void) {
+    static const size_t sides[3][2] = {{5, 7}, {4097, 3}, {2, 4097}};
+    static const size_t octaves[3] = {5, 6, SIZE_MAX};
+    bool holds = true;
+    for (int side = 0; side < 3; side++)
+        for (size_t off = 0; off < 2; off++)
+            for (int octave = 0; octave < 3; octave++)
+                for (int set = 0; set < 3; set++)
+                    for (int level = 0; level < 5; level++)
+                        holds = holds && refused_first((wrong){sides[side][0], sides[side][1], off, octaves[octave], set, level});
+    expect("the first refusal is answered, and it writes nothing", holds);
+}
+
+/* Which pixels of level k of a map of rows by cols with one pixel lost are at most radius off it: exactly those are not finite, the others as before. */
+static bool reaches(const uint8_t *set, size_t octave, size_t row, size_t col, float lost, const size_t radii[4]) {
+    enum { ROWS = 40, COLS = 37, PIXELS = ROWS * COLS };
+    static const size_t lengths[4] = {PIXELS, PIXELS, PIXELS, PIXELS};
+    float raw[PIXELS];
+    for (size_t i = 0; i < PIXELS; i++) raw[i] = (float)(i * 7919 % 1000) / 8 - 60;
+    made before = make(set, URAMSHEG_SET_BYTES, ROWS, COLS, octave, raw, PIXELS, lengths);
+    raw[col * ROWS + row] = lost;
+    made after = make(set, URAMSHEG_SET_BYTES, ROWS, COLS, octave, raw, PIXELS, lengths);
+    bool holds = before.answer == 0 && after.answer == 0;
+    for (int k = 0; k < 4; k++)
+        for (size_t i = 0; i < PIXELS; i++) {
+            size_t r = i % ROWS, c = i / ROWS, radius = radii[k];
+            bool near = r <= row + radius && row <= r + radius && c <= col + radius && col <= c + radius;
+            float was = before.level[k][i], is = after.level[k][i];
+            holds = holds && isfinite(was) && (near ? !isfinite(is) : memcmp(&was, &is, sizeof is) == 0);
+        }
+    drop(before);
+    drop(after);
+    return holds;
+}
+
+int main(void) {
+    static const float sigmas[4] = {1, 2, 3, 4}, wide[4] = {1, 5, 5.25f, 1e20f};
+    static const size_t radii[4] = {3, 6, 9, 12}, later[4] = {1, 4, 8, 12}, most[4] = {3, 15, 16, 16};
+    static const size_t none[4] = {0, 0, 0, 0}, one[4] = {1, 1, 1, 1}, longer[4] = {35, 36, 40, 99}, exact[4] = {35, 35, 35, 35};
+    uint8_t set[URAMSHEG_SET_BYTES], broad[URAMSHEG_SET_BYTES];
+    float raw[35], zero = -0.0f;
+    set_of(set, sigmas);
+    set_of(broad, wide);
+    for (int i = 0; i < 35; i++) raw[i] = (float)(i * i % 17);
+
+    refusals();
+
+    made a = make(set, sizeof set, 5, 7, 0, raw, 35, exact), b = make(set, sizeof set, 5, 7, 0, raw, 35, longer);
+    bool holds = a.answer == 0 && b.answer == 0;
+    for (int k = 0; k < 4; k++) holds = holds && !memcmp(a.level[k], b.level[k], sizeof raw) && all_are(b.level[k], 35, longer[k], kept);
+    expect("a longer buffer is kept past the pixels", holds);
+    drop(a);
+    drop(b);
+
+    holds = true;
+    for (size_t octave = 0; octave < 6; octave++) {
+        a = make(set, sizeof set, 1, 1, octave, &zero, 1, one);
+        for (int k = 0; k < 4; k++) holds = holds && a.answer == 0 && all_are(a.level[k], 0, 1, zero);
+        drop(a);
+    }
+    expect("a map of one pixel, -0, stays -0", holds);
+
+    a = make(set, sizeof set, 0, 4096, 0, raw, 0, none);
+    b = make(set, sizeof set, 4096, 0, 0, raw, 0, one);
+    holds = a.answer == 0 && b.answer == 0;
+    for (int k = 0; k < 4; k++) holds = holds && all_are(b.level[k], 0, 1, kept);
+    expect("an empty map is taken, and nothing is written", holds);
+    drop(a);
+    drop(b);
+
+    holds = true;
+    for (size_t place = 0; place < 4; place++) {
+        size_t row = (size_t[]){0, 20, 39, 3}[place], col = (size_t[]){0, 18, 36, 36}[place];
+        for (int kind = 0; kind < 3; kind++) {
+            float lost = (float[]){NAN, INFINITY, -INFINITY}[kind];
+            holds = holds && reaches(set, 0, row, col, lost, radii) && reaches(set, 5, row, col, lost, later) && reaches(broad, 0, row, col, lost, most);
+        }
+    }
+    expect("a lost pixel reaches its radius and no further", holds);
+    return failures != 0;
+}
