@@ -1,0 +1,90 @@
+/* From a raw map to sizes in C: `levels SET MAP.csv` makes the map's four levels under a set record and lists their spots. A line of the map is a row, its
+ * numbers parted by commas; nan is a lost pixel. `./test` builds and runs it on examples/raw.csv. */
+#include <inttypes.h>
+#include <math.h>
+#include <stdint.h>
+#include <stdio.h>
+#include <stdlib.h>
+#include <string.h>
+
+#include "uramsheg.h"
+
+enum { MOST = 1 << 16, SPOTS = 64 };
+static float lines[MOST], raw[MOST], level[4][MOST];
+
+static float get(const uint8_t *record, int word) {
+    float x;
+    memcpy(&x, record + 4 * word, 4); /* the record is little-endian, as this machine is */
+    return x;
+}
+
+static int fail(const char *what) {
+    fprintf(stderr, "%s\n", what);
+    return 1;
+}
+
+static size_t lost(const float *floats, size_t count) {
+    size_t sum = 0;
+    for (size_t i = 0; i < count; i++) sum += !isfinite(floats[i]);
+    return sum;
+}
+
+/* The map's numbers by rows, and its sides: 0 by 0 where its lines are not all of one length, or are too many. */
+static void read_map(FILE *file, size_t *rows, size_t *cols) {
+    size_t count = 0;
+    int after = 0;
+    *rows = *cols = 0;
+    while (count < MOST && fscanf(file, "%f", &lines[count]) == 1) {
+        count++;
+        after = fgetc(file);
+        if (after == ',') continue;
+        if (++*rows == 1) *cols = count;
+        if (count != *rows * *cols) break;
+    }
+    if (!feof(file) || count != *rows * *cols) *rows = *cols = 0;
+}
+
+int main(int count, char **words) {
+    uint8_t set[URAMSHEG_SET_BYTES + 1], out[URAMSHEG_SPOT_BYTES * SPOTS], sized[URAMSHEG_SIZED_BYTES * SPOTS];
+    uint64_t found = 0, value = 0;
+    size_t rows, cols;
+    FILE *set_file = count == 3 ? fopen(words[1], "rb") : NULL, *map_file = count == 3 ? fopen(words[2], "r") : NULL;
+    if (!set_file || !map_file) return fail("use: levels SET MAP.csv");
+    size_t set_length = fread(set, 1, sizeof set, set_file);
+    read_map(map_file, &rows, &cols);
+    size_t pixels = rows * cols;
+    if (pixels == 0) return fail("the map's lines are not all of one length, or are too many");
+    for (size_t row = 0; row < rows; row++)
+        for (size_t col = 0; col < cols; col++) raw[col * rows + row] = lines[row * cols + col];
+
+    printf("%zu rows by %zu cols, %zu lost\n", rows, cols, lost(raw, pixels));
+    uint32_t refused = uramsheg_levels(set, set_length, rows, cols, 0, raw, pixels, level[0], MOST, level[1], MOST, level[2], MOST, level[3], MOST);
+    for (int k = 0; k < 4 && !refused; k++) {
+        float least = INFINITY, most = -INFINITY;
+        for (size_t i = 0; i < pixels; i++) {
+            least = level[k][i] < least ? level[k][i] : least;
+            most = level[k][i] > most ? level[k][i] : most;
+        }
+        printf("level %d: %.2f to %.2f, %zu lost\n", k, least, most, lost(level[k], pixels));
+    }
+    if (!refused)
+        refused = uramsheg_detect(set, set_length, 50, 0, 12.1f, 1.9027314f, 4.1498866f, rows, cols, 0, level[0], pixels, level[1], pixels,
+                                  level[2], pixels, level[3], pixels, out, sizeof out, &found);
+    if (found > SPOTS) return fail("there are more spots than there is room for");
+    if (!refused) refused = uramsheg_join(set, set_length, rows, cols, out, URAMSHEG_SPOT_BYTES * found, sized, sizeof sized, &value);
+    if (refused) {
+        fprintf(stderr, "refused %" PRIu32 "\n", refused);
+        return 1;
+    }
+    for (uint64_t i = 0; i < value; i++) {
+        const uint8_t *spot = sized + URAMSHEG_SIZED_BYTES * i;
+        unsigned row = spot[44] + 256u * spot[45], col = spot[46] + 256u * spot[47];
+        printf("%s at x %.2f, y %.2f, home pixel (%u, %u): sigma %.2f, peak %.1f, ", spot[38] ? "maximum" : "minimum", get(spot, 0), get(spot, 1), row, col,
+               get(spot, 2), get(spot, 3));
+        if (spot[48])
+            printf("size %.2f\n", get(spot, 10));
+        else
+            printf("no size\n");
+    }
+    return 0;
+}
