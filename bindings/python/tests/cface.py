@@ -8,6 +8,7 @@ library = c.CDLL(str(ROOT / "target" / "python" / "libalp_c.so"))
 SIZE, FLOAT, U64 = c.c_size_t, c.c_float, c.POINTER(c.c_uint64)
 OCTETS, FLOATS = c.POINTER(c.c_uint8), c.POINTER(FLOAT)
 SIGNATURES = {
+    "uramsheg_levels": [OCTETS, SIZE, SIZE, SIZE, SIZE, *[FLOATS, SIZE] * 5],
     "uramsheg_detect": [OCTETS, SIZE, *[FLOAT] * 5, SIZE, SIZE, SIZE, *[FLOATS, SIZE] * 4, OCTETS, SIZE, U64],
     "uramsheg_join": [OCTETS, SIZE, SIZE, SIZE, OCTETS, SIZE, OCTETS, SIZE, U64],
     "uramsheg_correct": [OCTETS, SIZE, *[FLOAT] * 5, c.c_bool, FLOATS],
@@ -30,6 +31,15 @@ def by_columns(level):
     rows, cols = level.shape
     values = [float(level[row, col]) for col in range(cols) for row in range(rows)]
     return (FLOAT * max(len(values), 1))(*values), len(values)
+
+
+def levels(record, raw, octave, rooms, shape=None):
+    """The number, and the floats of the four buffers, each of which has room for as many and holds 7 before the call."""
+    rows, cols = shape or raw.shape
+    lent = [(FLOAT * max(room, 1))(*[7] * max(room, 1)) for room in rooms]
+    slices = [part for floats, room in zip(lent, rooms) for part in (floats, room)]
+    number = library.uramsheg_levels(*octets(record), rows, cols, octave, *by_columns(raw), *slices)
+    return number, [bytes(floats)[: 4 * room] for floats, room in zip(lent, rooms)]
 
 
 def detect(record, thresholds, levels, octave, room, shape=None):

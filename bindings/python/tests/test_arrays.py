@@ -35,10 +35,12 @@ def test_the_call_reads_the_array_itself():
     assert (int(ffi.cast("uintptr_t", pointer)), length) == (address(given), given.size)
 
 
-def test_other_threads_run_during_a_call():
-    rng = np.random.default_rng(1)
-    levels = [np.asfortranarray(rng.normal(size=(1200, 1200)), dtype="f4") for _ in range(4)]
-    thread = threading.Thread(target=u.detect, args=(levels, u.standard(), (0.0,)))
+NOISES = [np.asfortranarray(np.random.default_rng(seed).normal(size=(1200, 1200)), dtype="f4") for seed in range(4)]
+
+
+@pytest.mark.parametrize("call, given", [(u.detect, (NOISES, u.standard(), (0.0,))), (u.levels, (np.tile(NOISES[0], (3, 3)), u.standard()))])
+def test_other_threads_run_during_a_call(call, given):
+    thread = threading.Thread(target=call, args=given)
     times = [time.monotonic()]
     thread.start()
     while thread.is_alive():

@@ -1,4 +1,4 @@
-"""The map of known plumes: its sources are listed, or stand where the judged area says that they could not be; its list and its picture."""
+"""The maps of known plumes: their sources are listed, or stand where the judged area says that they could not be; the larger one's list and its picture."""
 import json
 import runpy
 import subprocess
@@ -10,6 +10,7 @@ import pytest
 from matplotlib.image import imread
 
 import uramsheg as u
+from uramsheg import scene
 
 FOLDER = cface.ROOT / "bindings" / "python" / "examples"
 EXAMPLE = runpy.run_path(str(FOLDER / "plumes.py"))
@@ -56,3 +57,27 @@ def test_its_picture_made_small_is_like_the_stored_one(made, tmp_path):
     subprocess.run([sys.executable, FOLDER / "small.py", made / "spots.png", small], check=True)
     for path in (small, cface.ROOT / "docs" / "spots.png"):
         assert path.stat().st_size <= 200_000 and imread(path).shape[:2] == (573, 1000)
+
+
+RAW = cface.ROOT / "examples"
+
+
+def test_the_raw_map_is_what_its_maker_makes():
+    assert subprocess.run([sys.executable, RAW / "raw.py"], capture_output=True, check=True).stdout == (RAW / "raw.csv").read_bytes()
+
+
+def test_the_raw_map_s_levels_spots_and_sizes_are_those_that_c_and_rust_print():
+    raw, tables = np.loadtxt(RAW / "raw.csv", delimiter=","), u.standard()
+    rows, cols = raw.shape
+    four = u.levels(raw, tables)
+    spots = u.join(u.detect(four, tables, u.Thresholds(peak=50)), tables, raw.shape)
+    lines = [f"{rows} rows by {cols} cols, {(~np.isfinite(raw)).sum()} lost"]
+    lines += [f"level {k}: {np.nanmin(level):.2f} to {np.nanmax(level):.2f}, {(~np.isfinite(level)).sum()} lost" for k, level in enumerate(four)]
+    lines += [f"{'maximum' if spot['is_max'] else 'minimum'} at x {spot['x']:.2f}, y {spot['y']:.2f}, home pixel ({spot['row']}, {spot['col']}): "
+              f"sigma {spot['sigma']:.2f}, peak {spot['peak']:.1f}, size {spot['size']:.2f}" for spot in spots]
+    assert lines == (cface.ROOT / "tests" / "alp" / "raw.expected").read_text().splitlines()
+    *plumes, (x, y, *_) = runpy.run_path(str(RAW / "raw.py"))["PLUMES"]
+    assert len(spots) == len(plumes) and not scene.judged(four)[y, x]
+    for x, y, size, height in plumes:
+        (near,) = spots[np.hypot(spots["x"] - x, spots["y"] - y) < 0.1]
+        assert abs(near["size"] / size - 1) < 0.02 and abs(-2 * near["peak"] / height - 1) < 0.05 and scene.judged(four)[y, x]

@@ -6,7 +6,7 @@ import xarray
 from hypothesis import given, settings, strategies as st
 
 import uramsheg as u
-from uramsheg import finding, levels
+from uramsheg import finding
 
 SPOT = (40.3, 33.4, 2.6, 100.0)
 
@@ -86,7 +86,7 @@ def test_a_high_ground_does_not_matter():
 def test_noise_of_a_map_and_of_its_response():
     noise = np.random.default_rng(5).normal(size=(400, 400)) * 3
     assert finding.noise_of(noise) == pytest.approx(3, rel=0.02)
-    for level, sigma in zip(levels.build(noise, u.standard()), u.standard().sigmas.astype(float)):
+    for level, sigma in zip(u.levels(noise, u.standard()), u.standard().sigmas.astype(float)):
         inner = level[20:-20, 20:-20].astype(float)
         response = sigma**2 * (inner[:-2, 1:-1] + inner[2:, 1:-1] + inner[1:-1, :-2] + inner[1:-1, 2:] - 4 * inner[1:-1, 1:-1])
         assert response.std() == pytest.approx(finding.response_noise(3, sigma), rel=0.12)

@@ -4,10 +4,10 @@ import re
 import blob
 import cface
 import numpy as np
+import plain
 import pytest
 
 import uramsheg as u
-from uramsheg import levels
 
 GUIDE = (cface.ROOT / "docs" / "GUIDE.md").read_text()
 NOISES = [np.random.default_rng(seed).normal(size=(707, 707)) for seed in (100, 101)]
@@ -62,8 +62,7 @@ def test_correlated_noise(blur, least):
     listed = 0
     for noise in NOISES:
         if blur:
-            taps = levels.half_kernel(blur).astype(float)
-            noise = levels.blur_rows(levels.blur_rows(noise.T, taps).T, taps)
+            noise = plain.blurred(noise, plain.half_kernel(blur).astype(float))
         listed += len(u.find(noise).spots)
         assert len(u.find(noise, peak=3 * noise.std()).spots) == 0
     assert listed >= least and (blur or not listed)

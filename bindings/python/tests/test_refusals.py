@@ -14,6 +14,7 @@ T = cface.case("list")[0]
 NAN = float("nan")
 GIVEN = (1.0, 1.0, 10.0, 1.9027314, 4.1498866)
 M = np.zeros((9, 10), "f4")
+EMPTY = [np.zeros(0, "f4") for _ in range(4)]
 
 
 def refused(kind, call, *given, **named):
@@ -35,6 +36,7 @@ def test_1_size(m):
     for shape in ((4097, 3), (3, 4097)):
         wide = np.zeros(shape, "f4", order="F")
         assert "4097" in str(refused(u.SizeRefused, u.detect, [wide] * 4, b"", GIVEN, 6))
+        assert "cut the map into tiles" in str(refused(u.SizeRefused, u.levels, wide, b"", 6, out=EMPTY))
         refused(u.SizeRefused, u.downsample, wide)
         refused(u.SizeRefused, u.join, b"1", b"", shape)
     assert len(u.detect([np.zeros((4096, 3), "f4")] * 4, m.set, GIVEN)) == 0
@@ -61,12 +63,14 @@ def test_3_octave(m):
     assert "octave 6" in str(refused(u.OctaveRefused, u.detect, m.levels(), b"", (NAN,) * 5, 6))
     refused(u.OctaveRefused, u.detect, m.levels(), m.set, GIVEN, 2**64 - 1)
     assert len(u.detect(m.levels(), m.set, m.thresholds, 5)) == 1
+    assert str(refused(u.OctaveRefused, u.levels, M, b"", 6, out=EMPTY)) == "refused 3: the octave is above 5: give one from 0 to 5 (octave 6)"
+    refused(u.OctaveRefused, u.levels, M, m.set, 2**64 - 1)
 
 
 def test_4_set(m):
     bad = m.set[:4] + b"\xff\xff\xff\xff" + m.set[8:527] + b"\1"
     for call in (lambda: u.detect(m.levels(), bad, GIVEN), lambda: u.join(b"1", bad, m.shape), lambda: u.correct((1, 2, 3, 4), bad, 2, True),
-                 lambda: u.read_set(bad)):
+                 lambda: u.read_set(bad), lambda: u.levels(M, bad, 5, out=EMPTY)):
         assert refused(u.SetRefused, call).detail == "sigmas[1] is not finite; spare[2] is 1, not 0"
     assert "527 bytes" in str(refused(u.SetRefused, u.read_set, m.set[:-1]))
     assert u.read_set(m.set).to_bytes() == m.set
@@ -104,6 +108,33 @@ def test_6_room(m):
     assert np.shares_memory(sized, wide) and sized.tobytes() == u.join(spots, m.set, m.shape).tobytes() and not wide[2].tobytes().strip(b"\0")
 
 
+@pytest.mark.parametrize("rooms, said", [((89, 90, 90, 90), "level 0 has room for 89 of 90 pixels"), ((90, 90, 91, 0), "level 3 has room for 0 of 90 pixels"),
+                                         ((200, 1, 2, 90), "level 1 has room for 1 of 90 pixels, level 2 has room for 2 of 90 pixels")])
+def test_6_room_of_levels(m, rooms, said):
+    out = [np.full(room, 7, "f4") for room in rooms]
+    error = refused(u.RoomRefused, u.levels, M, m.set, out=out)
+    assert error.detail == said and "lend a longer one" in str(error) and all((floats == 7).all() for floats in out)
+
+
+@given(st.sampled_from([(9, 10), (4097, 2)]), st.sampled_from([5, 6]), st.booleans(), st.integers(0, 4))
+def test_the_first_refusal_of_levels_is_the_c_face_s_own(shape, octave, good, short):
+    raw, record = np.ones(shape, "f4"), T[: 528 if good else 527]
+    rooms = [raw.size - (place < short) for place in range(4)]
+    out = [np.full(room, 7, "f4") for room in rooms]
+    number, floats = cface.levels(record, raw, octave, rooms)
+    try:
+        u.levels(raw, record, octave, out=out)
+        assert number == 0
+    except u.Refused as error:
+        assert number == error.number == (1 if shape[0] > 4096 else 3 if octave > 5 else 6 if good else 4)
+    assert [part.tobytes() for part in out] == floats
+
+
+def test_2_of_levels_is_the_c_face_s_alone():
+    """An array has its own sides, so that only C can say others: before the octave, after the sides."""
+    assert [cface.levels(b"", M, 6, [0] * 4, shape)[0] for shape in ((9, 11), (9, 9), (90, 2), (0, 0), (4097, 1))] == [2, 2, 2, 2, 1]
+
+
 def test_7_no_size(m):
     assert refused(u.NoSizeRefused, u.correct, (-1, 4, 0, 0), m.set, 2, False).number == 7
 
@@ -139,13 +170,25 @@ def test_what_is_no_argument_is_no_refusal(m):
         lambda: u.detect([M + 1j] * 4, m.set, GIVEN), lambda: u.detect(levels, "standard", GIVEN), lambda: u.detect(levels, 528, GIVEN),
         lambda: u.detect(levels, m.set, GIVEN, 0.5), lambda: u.detect(levels, m.set, (1,) * 6), lambda: u.join(M, m.set, m.shape),
         lambda: u.join(b"", m.set, m.shape, out=M), lambda: u.correct((1, 2, 3), m.set, 1, True), lambda: u.octave_count("9", 9),
+        lambda: u.levels(np.zeros(90), m.set), lambda: u.levels(M > 0, m.set), lambda: u.levels(M, 528), lambda: u.levels(M, m.set, 0.5),
+        lambda: u.levels(M, m.set, out=EMPTY[:3]), lambda: u.levels(M, m.set, out=[M] * 4), lambda: u.levels(M, m.set, out=[np.zeros(90) for _ in range(4)]),
     ]
     for call in wrong:
         pytest.raises(TypeError, call)
-    for call in (lambda: u.detect(levels, m.set, GIVEN, -1), lambda: u.octave_count(-1, 9), lambda: u.octave_count(9, 2**64)):
+    for call in (lambda: u.detect(levels, m.set, GIVEN, -1), lambda: u.octave_count(-1, 9), lambda: u.octave_count(9, 2**64), lambda: u.levels(M, m.set, -1)):
         with pytest.raises(ValueError) as caught:
             call()
         assert not isinstance(caught.value, u.Refused)
+
+
+def test_levels_must_not_overlap_the_map_nor_each_other(m):
+    room = np.zeros(5 * 90, "f4")
+    parts = [room[90 * place : 90 * place + 90] for place in range(5)]
+    raw = parts[0].reshape((9, 10), order="F")
+    assert len(u.levels(raw, m.set, out=parts[1:])) == 4
+    for out in (parts[:4], [*parts[1:4], parts[1]], [*parts[1:4], room[359:449]]):
+        with pytest.raises(ValueError, match="overlap"):
+            u.levels(raw, m.set, out=out)
 
 
 def test_out_and_spots_must_not_overlap(m):

@@ -4,10 +4,10 @@ import pytest
 from hypothesis import given, strategies as st
 
 import uramsheg as u
-from uramsheg import levels, scene
+from uramsheg import scene
 
 TABLES = u.standard()
-MAPS = [levels.build(np.random.default_rng(seed).normal(size=shape), TABLES) for seed, shape in enumerate([(70, 90), (33, 41), (32, 157), (90, 24)])]
+MAPS = [u.levels(np.random.default_rng(seed).normal(size=shape), TABLES) for seed, shape in enumerate([(70, 90), (33, 41), (32, 157), (90, 24)])]
 
 
 @pytest.mark.parametrize("four", MAPS)
@@ -25,7 +25,7 @@ def test_tiles_list_what_the_whole_map_lists(four, side):
 
 
 def test_a_spot_that_moved_over_the_border_has_another_home_than_its_key():
-    four = levels.build(np.random.default_rng(4).normal(size=(500, 520)), TABLES)
+    four = u.levels(np.random.default_rng(4).normal(size=(500, 520)), TABLES)
     sized = u.join(u.detect(four, TABLES, (0.001,)), TABLES, four[0].shape)
     own = np.divmod(sized["key"].astype(int), four[0].shape[1])
     away = [sized[side].astype(int) - pixel for side, pixel in zip(("row", "col"), own)]

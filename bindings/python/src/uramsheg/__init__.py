@@ -1,5 +1,5 @@
 """Uramsheg: the spots of a gas map that stand out at one size. Every call ends, whatever it is given; a refused one raises a `Refused`."""
-from .detector import Thresholds, correct, detect, downsample, join, octave_count, read_set
+from .detector import Thresholds, correct, detect, downsample, join, levels, octave_count, read_set
 from .filling import fill
 from .finding import FOUND, Found, Judged, find
 from .grid import Grid
@@ -24,5 +24,5 @@ __version__ = "0.1.0"
 __all__ = [
     "FOUND", "Found", "Grid", "Judged", "LevelRefused", "NoSizeRefused", "OctaveRefused", "RecordsRefused", "Refused", "RoomRefused", "SET", "SIZED",
     "SPOT", "SetRefused", "SizeRefused", "Tables", "TablesFault", "Thresholds", "ThresholdsRefused", "correct", "detect", "downsample", "fill", "find",
-    "join", "octave_count", "read_set", "size", "standard",
+    "join", "levels", "octave_count", "read_set", "size", "standard",
 ]

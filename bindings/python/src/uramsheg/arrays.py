@@ -6,13 +6,13 @@ import numpy as np
 from ._native import ffi
 
 
-def level(values):
-    """Values as a level: the array itself where it is float32, native, aligned and Fortran-ordered, else a copy. Masked pixels become NaN."""
+def level(values, what="level"):
+    """Values as a level, or as a map: the array itself where it is float32, native, aligned and Fortran-ordered, else a copy. Masked pixels become NaN."""
     array = np.asanyarray(values)
     if array.ndim != 2:
-        raise TypeError(f"a level is a 2-d array, not one of shape {array.shape}")
+        raise TypeError(f"a {what} is a 2-d array, not one of shape {array.shape}")
     if array.dtype.kind not in "fiu":
-        raise TypeError(f"a level holds real numbers, not {array.dtype}")
+        raise TypeError(f"a {what} holds real numbers, not {array.dtype}")
     if np.ma.isMaskedArray(array):
         array = array.astype(np.float32).filled(np.nan)
     array = np.asarray(array)
@@ -26,6 +26,11 @@ def level(values):
 def floats(array):
     """A level's floats by columns, where they lie: its transpose is in the order that the buffer protocol asks for."""
     return ffi.from_buffer("float[]", array.T), array.size
+
+
+def floats_to_write(array):
+    """The floats of a 1-d array, to be written."""
+    return ffi.from_buffer("float[]", array, require_writable=True), array.size
 
 
 def octets(array):

@@ -6,7 +6,7 @@ import numpy as np
 from . import arrays
 from ._native import ffi, lib
 from .records import SIZED, SPOT
-from .refusals import LevelRefused, OctaveRefused, RecordsRefused, SetRefused, SizeRefused, ThresholdsRefused, kind_of
+from .refusals import LevelRefused, OctaveRefused, RecordsRefused, RoomRefused, SetRefused, SizeRefused, ThresholdsRefused, kind_of
 from .tables import Tables, faults, record_of
 
 
@@ -19,6 +19,35 @@ class Thresholds(NamedTuple):
     ratio: float = 12.1
     low: float = 1.9027314
     high: float = 4.1498866
+
+
+def levels(raw, tables, octave=0, *, out=None):
+    """The four blurred levels of a raw map, float32 in Fortran order.
+
+    A map is a 2-d array of rows by cols, copied as a level is in `detect`; NaN is a lost pixel, and takes all that the kernels reach with it: in level k
+    the pixels at most R_k rows and cols off, R_k 3 times the kernel's sigma rounded up, 1 to 16. The map of octave 0 is taken to have a blur of 0.5
+    pixels, one of a later octave half the third sigma. `out`, four contiguous 1-d arrays of float32, is written to where it is given: each begins with its
+    level, and keeps what comes after it.
+    """
+    record = record_of(tables)
+    array = arrays.level(raw, "map")
+    rows, cols = array.shape
+    octave = arrays.count("octave", octave)
+    lent = lent_levels(array, [np.empty(array.size, np.float32) for _ in range(4)] if out is None else list(out))
+    slices = [part for floats in lent for part in arrays.floats_to_write(floats)]
+    number = lib.uramsheg_levels(record, len(record), rows, cols, octave, *arrays.floats(array), *slices)
+    if number:
+        raise refusal(number, record=record, shapes=[array.shape], octave=octave, rooms=[len(floats) for floats in lent])
+    return [floats[: array.size].reshape(array.shape, order="F") for floats in lent]
+
+
+def lent_levels(array, out):
+    """The four buffers that levels go to, none of which overlaps another or the map."""
+    if len(out) != 4 or not all(isinstance(floats, np.ndarray) and floats.dtype == np.float32 and floats.ndim == 1 for floats in out):
+        raise TypeError("out must be four 1-d arrays of float32")
+    if any(np.may_share_memory(one, other) for place, one in enumerate(out) for other in [array, *out[:place]]):
+        raise ValueError("out must not overlap the map, nor one level another")
+    return out
 
 
 def detect(levels, tables, thresholds, octave=0, *, room=1024):
@@ -112,8 +141,7 @@ def downsample(level):
     rows, cols = array.shape
     out = np.zeros((rows // 2) * (cols // 2), np.float32)
     half_rows, half_cols = ffi.new("uint64_t *"), ffi.new("uint64_t *")
-    lent = ffi.from_buffer("float[]", out, require_writable=True)
-    number = lib.uramsheg_downsample(rows, cols, *arrays.floats(array), lent, len(out), half_rows, half_cols)
+    number = lib.uramsheg_downsample(rows, cols, *arrays.floats(array), *arrays.floats_to_write(out), half_rows, half_cols)
     if number:
         raise refusal(number, shapes=[array.shape])
     return out[:half_rows[0] * half_cols[0]].reshape((half_rows[0], half_cols[0]), order="F")
@@ -128,7 +156,7 @@ def read_set(record):
     return Tables.from_bytes(octets)
 
 
-def refusal(number, value=0, *, record=b"", shapes=(), thresholds=(), octave=0, listed=0):
+def refusal(number, value=0, *, record=b"", shapes=(), thresholds=(), octave=0, listed=0, rooms=()):
     """The exception of a refused call, with what was handed in where it says more than the number does."""
     kind = kind_of(number)
     if kind is ThresholdsRefused:
@@ -142,4 +170,7 @@ def refusal(number, value=0, *, record=b"", shapes=(), thresholds=(), octave=0, 
         return kind(f"octave {octave}")
     if kind in (SizeRefused, LevelRefused):
         return kind(", ".join(f"{rows} by {cols}" for rows, cols in shapes))
+    if kind is RoomRefused and rooms:
+        (rows, cols), = shapes
+        return kind(", ".join(f"level {k} has room for {room} of {rows * cols} pixels" for k, room in enumerate(rooms) if room < rows * cols))
     return kind()

@@ -3,7 +3,7 @@ from typing import NamedTuple
 
 import numpy as np
 
-from . import doubles, levels, maps, scene
+from . import doubles, maps, scene
 from .detector import Thresholds, octave_count, read_set
 from .grid import Grid
 from .tables import standard
@@ -145,7 +145,7 @@ def pyramid(base, tables, octaves):
     count = octave_count(*base.shape)
     asked = range(count) if octaves is None else [octave for octave in range(count) if octave in octaves]
     for octave in range(max(asked, default=-1) + 1):
-        four = levels.build(base, tables, octave)
+        four = scene.levels(base, tables, octave)
         if octave in asked:
             yield octave, four
         base = scene.halved(four[2])

@@ -2,17 +2,17 @@
 
 Nothing of it comes from the tables of the published detector, which are not here; PARTS says where each field comes from. The model of what is fitted:
 a spot is a Gaussian of standard deviation s on a flat ground, in a map whose own blur is `base` pixels. Level k blurs it to sigmas[k] with a sampled,
-cut kernel as levels are made with (`levels.half_kernel`); the sample is sigmas[k]^2 times the five-point Laplacian. In the continuum its response is
+cut kernel like those that levels are made with (`half_kernel`); the sample is sigmas[k]^2 times the five-point Laplacian. In the continuum its response is
 -2 s^2 sigma^2 / (s^2 + sigma^2)^2 times the height, extreme at sigma = s.
 
 The record is stored, not made when it is needed: another library of linear algebra may give other last bits.
 """
+import math
 import sys
 from pathlib import Path
 
 import numpy as np
 
-from .levels import half_kernel
 from .records import NUMBERS
 from .tables import Tables
 
@@ -39,6 +39,17 @@ SIGMAS = tuple(1.6 * 2 ** (k / 2) for k in range(4))
 PHASES = (-1 / 3, 0.0, 1 / 3)
 #: the pixel noise that the fit allows for, in heights of the spot
 NOISE = 0.02
+#: the largest radius of a kernel
+MOST_RADIUS = 16
+
+
+def half_kernel(sigma):
+    """The taps 0 to radius of a sampled Gaussian, in float32. It is not the proved kernel: its exp is the platform's, which may differ in the last place."""
+    sigma = np.float32(sigma)
+    radius = math.ceil(min(float(np.float32(3) * sigma), MOST_RADIUS))
+    places = np.arange(-radius, radius + 1).astype(np.float32) / sigma
+    full = np.exp((np.float32(-0.5) * places * places).astype(float)).astype(np.float32)
+    return full[radius:] / np.cumsum(full)[-1]
 
 
 def whole_kernel(target, base):

@@ -35,7 +35,7 @@ class OctaveRefused(Refused):
     """The octave is above 5."""
 
     number = lib.URAMSHEG_REFUSED_OCTAVE
-    why = "the octave is above 5"
+    why = "the octave is above 5: give one from 0 to 5"
 
 
 class SetRefused(Refused):

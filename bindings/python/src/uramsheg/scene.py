@@ -1,16 +1,20 @@
-"""Maps of any side: detection and the join tile by tile, a level halved, and which pixels were judged. Nothing here is proved but what each tile's calls
-answer: it stands in for a proved function, and all that uses it calls these three alone.
+"""Maps of any side: levels, detection and the join tile by tile, a level halved, and which pixels were judged. Nothing here is proved but what each tile's
+calls answer: it stands in for a proved function, and all that uses it calls these four alone.
 
-Tiles start at every 4,088th pixel and are 4,096 long, or to the end: the four pixels at a tile's side that are not judged are judged in its neighbour.
+Tiles start at every 4,088th pixel and are 4,096 long, or to the end: the four pixels at a tile's side that are not judged are judged in its neighbour. A
+tile of levels is made of 16 pixels more on each side that is cut: no kernel reaches further, so that its pixels are those of the whole map.
 """
 import numpy as np
 
+from . import detector
 from .detector import detect, downsample, join
 from .records import SIZED
 
 SIDE = 4096
 #: how many pixels at a map's side are not judged
 MARGIN = 4
+#: the largest radius of a kernel
+REACH = 16
 
 
 def tiles(length, side):
@@ -20,6 +24,22 @@ def tiles(length, side):
         yield start, start + side
         start += side - 2 * MARGIN
     yield start, length
+
+
+def levels(raw, tables, octave=0, *, side=SIDE):
+    """The four levels of a raw map of any sides."""
+    rows, cols = np.shape(raw)
+    if max(rows, cols) <= side:
+        return detector.levels(raw, tables, octave)
+    four = [np.empty((rows, cols), np.float32, order="F") for _ in range(4)]
+    step = side - 2 * REACH
+    for top in range(0, rows, step):
+        for left in range(0, cols, step):
+            above, before = max(top - REACH, 0), max(left - REACH, 0)
+            parts = detector.levels(raw[above : top + step + REACH, before : left + step + REACH], tables, octave)
+            for level, part in zip(four, parts):
+                level[top : top + step, left : left + step] = part[top - above : top - above + step, left - before : left - before + step]
+    return four
 
 
 def listed(levels, tables, thresholds, octave=0, *, side=SIDE):
