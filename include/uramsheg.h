@@ -55,12 +55,13 @@ enum {
 };
 
 /* Blurs a raw map into its four levels, each at the start of its own buffer.
- * The map of octave 0 has a blur of 0.5 pixels, one of octave 1 to 5 (level 2 of the octave before, halved) half the set's third sigma; level k brings it
- * to the set's sigma k, by the incremental sigma, the root of the difference of their squares and at least 0.1. Its taps are a Gaussian's of that sigma to
- * the radius R_k, 3 times the sigma rounded up, 1 to 16, divided by their sum; first across columns with the edge column repeated, then along rows with the
- * edge row repeated. A pixel's sum begins with the centre and goes outward, each pair summed before it is weighted.
- * A lost raw pixel (a NaN or an infinity) makes exactly the pixels at most R_k rows and R_k cols off non-finite in level k, and changes no other. Where
- * the sums of finite raw pixels overflow, a level is not finite there either.
+ * A map of octave 0 is taken to have a blur of 0.5 pixels, one of a later octave (level 2 of the octave before, halved) half the set's third sigma. Level k
+ * is blurred to the set's sigma k by a kernel of the incremental sigma, the root of the difference of the two squares, at least 0.1: a Gaussian's taps to
+ * the radius R_k, 3 times that sigma rounded up, 1 to 16, divided by their sum. It goes first across columns, the edge column repeated, then along rows,
+ * the edge row repeated; a pixel's sum begins with the centre and goes outward, each pair summed before it is weighted.
+ * A lost raw pixel (a NaN or an infinity) makes exactly the pixels at most R_k rows and R_k cols off non-finite in level k, and changes no other. So
+ * uramsheg_detect strikes exactly the spots whose own pixel is at most R + 2 rows and cols off a lost raw one, R the largest of the four radii, save the
+ * four corners R + 2 off both ways. Where the sums of finite raw pixels overflow, a level is not finite there either.
  * Answers 0; a buffer may be longer than rows * cols, and its later floats are kept.
  * Refused (checked in the order 1, 2, 3, 4, 6), it answers the number, and all four buffers are untouched.
  * It takes at most some 50 KB of stack and no heap. The raw map and the four buffers must not overlap. */

@@ -1,10 +1,11 @@
 /* Makes levels from C: each refusal in its order, what is kept, how far a lost pixel reaches. Says what failed. */
-#include <inttypes.h>
+#define _XOPEN_SOURCE 700
 #include <math.h>
 #include <stdint.h>
 #include <stdio.h>
 #include <stdlib.h>
 #include <string.h>
+#include <ucontext.h>
 
 #include "uramsheg.h"
 
@@ -105,6 +106,33 @@ static bool reaches(const uint8_t *set, size_t octave, size_t row, size_t col, f
     return holds;
 }
 
+static uint8_t stack[1 << 18];
+static uint32_t deep_answer = UINT32_MAX;
+
+static void deep(void) {
+    enum { ROWS = 4096, COLS = 3, PIXELS = ROWS * COLS };
+    static const float sigmas[4] = {1, 5, 6, 7};
+    static float raw[PIXELS], level[4][PIXELS];
+    static uint8_t set[URAMSHEG_SET_BYTES];
+    set_of(set, sigmas);
+    deep_answer = uramsheg_levels(set, sizeof set, ROWS, COLS, 0, raw, PIXELS, level[0], PIXELS, level[1], PIXELS, level[2], PIXELS, level[3], PIXELS);
+}
+
+/* How many bytes of a stack of its own the longest columns take: it is painted before. */
+static size_t stack_taken(void) {
+    static ucontext_t here, there;
+    size_t kept_bytes = 0;
+    memset(stack, 0xa5, sizeof stack);
+    getcontext(&there);
+    there.uc_stack.ss_sp = stack;
+    there.uc_stack.ss_size = sizeof stack;
+    there.uc_link = &here;
+    makecontext(&there, deep, 0);
+    swapcontext(&here, &there);
+    while (kept_bytes < sizeof stack && stack[kept_bytes] == 0xa5) kept_bytes++;
+    return sizeof stack - kept_bytes;
+}
+
 int main(void) {
     static const float sigmas[4] = {1, 2, 3, 4}, wide[4] = {1, 5, 5.25f, 1e20f};
     static const size_t radii[4] = {3, 6, 9, 12}, later[4] = {1, 4, 8, 12}, most[4] = {3, 15, 16, 16};
@@ -149,5 +177,8 @@ int main(void) {
         }
     }
     expect("a lost pixel reaches its radius and no further", holds);
+
+    size_t taken = stack_taken();
+    expect("at most 50 KB of stack are taken", deep_answer == 0 && taken <= 50 * 1024);
     return failures != 0;
 }
