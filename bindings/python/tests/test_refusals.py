@@ -3,6 +3,7 @@ import pickle
 
 import cface
 import numpy as np
+import odd
 import pytest
 from hypothesis import given, strategies as st
 
@@ -172,6 +173,8 @@ def test_what_is_no_argument_is_no_refusal(m):
         lambda: u.join(b"", m.set, m.shape, out=M), lambda: u.correct((1, 2, 3), m.set, 1, True), lambda: u.octave_count("9", 9),
         lambda: u.levels(np.zeros(90), m.set), lambda: u.levels(M > 0, m.set), lambda: u.levels(M, 528), lambda: u.levels(M, m.set, 0.5),
         lambda: u.levels(M, m.set, out=EMPTY[:3]), lambda: u.levels(M, m.set, out=[M] * 4), lambda: u.levels(M, m.set, out=[np.zeros(90) for _ in range(4)]),
+        lambda: u.levels(M, m.set, out=[np.zeros(180, "f4")[::2] for _ in range(4)]), lambda: u.levels(M, m.set, out=[odd.read_only(np.zeros(90, "f4"))] * 4),
+        lambda: u.levels(M, m.set, out=[odd.unaligned(np.zeros(90, "f4")) for _ in range(4)]),
     ]
     for call in wrong:
         pytest.raises(TypeError, call)

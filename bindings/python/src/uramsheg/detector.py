@@ -26,8 +26,8 @@ def levels(raw, tables, octave=0, *, out=None):
 
     A map is a 2-d array of rows by cols, copied as a level is in `detect`; NaN is a lost pixel, and takes all that the kernels reach with it: in level k
     the pixels at most R_k rows and cols off, R_k 3 times the kernel's sigma rounded up, 1 to 16. The map of octave 0 is taken to have a blur of 0.5
-    pixels, one of a later octave half the third sigma. `out`, four contiguous 1-d arrays of float32, is written to where it is given: each begins with its
-    level, and keeps what comes after it.
+    pixels, one of a later octave half the third sigma. `out`, four 1-d arrays of float32, is written to where it is given: each begins with its level, and
+    keeps what comes after it.
     """
     record = record_of(tables)
     array = arrays.level(raw, "map")
@@ -43,8 +43,8 @@ def levels(raw, tables, octave=0, *, out=None):
 
 def lent_levels(array, out):
     """The four buffers that levels go to, none of which overlaps another or the map."""
-    if len(out) != 4 or not all(isinstance(floats, np.ndarray) and floats.dtype == np.float32 and floats.ndim == 1 for floats in out):
-        raise TypeError("out must be four 1-d arrays of float32")
+    if len(out) != 4 or not all(isinstance(floats, np.ndarray) and floats.dtype == np.float32 and floats.ndim == 1 and floats.flags.carray for floats in out):
+        raise TypeError("out must be four 1-d arrays of float32, contiguous, aligned and writable")
     if any(np.may_share_memory(one, other) for place, one in enumerate(out) for other in [array, *out[:place]]):
         raise ValueError("out must not overlap the map, nor one level another")
     return out
