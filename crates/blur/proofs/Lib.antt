@@ -1,5 +1,5 @@
--- Laws of a pass, of lines, of a whole level, and of how far a lost raw pixel reaches.
+-- Laws of a pass, of the two by lines, of a whole level, and of how far a lost raw pixel reaches.
 pub mod Pass
-mod LineLaws
+mod PassLaws
 pub mod LevelLaws
 pub mod ReachLaws

@@ -1,15 +1,14 @@
 -- One pass reads exactly the places of its line at most n off, and is finite only where all these are, whatever its taps are. Assumes nothing.
-use Prim.Native.Nat.{ℕ, zero, suc, _+_, _-_, _≤_, _<_, min}
+use Prim.Native.Nat.{ℕ, zero, suc, _+_, _-_, _≤_, min}
 use native.Mathlib.Nat.{eq-or-lt-of-le, eq-zero-or-pos}
 use native.Mathlib.Omega.{arith}
-use mathlib.Core.Path.{_≡_, refl, subst}
+use mathlib.Core.Path.{_≡_, subst}
 use mathlib.Core.Bool.{true}
 use mathlib.Core.Logic.{_⊎_, ⊎-elim, inl, inr}
 use mathlib.Core.List.{List}
 use lib.ListN.{getD}
 use lib.Ieee.{Float, nan}
 use Rattle.float.specs.Small.{finite}
-use Rattle.float.specs.Num.{_⊕_, _⊗_}
 use Rattle.float.proofs.Finite.{sum-finite, product-finite}
 use Rattle.blur.specs.Blur.{passTo}
 use Rattle.blur.specs.Reach.{off}

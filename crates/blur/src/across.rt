@@ -3,8 +3,7 @@ ghost use mathlib.Core.Path.{_≡_};
 ghost use Prim.Native.Nat.{_+_, _-_, _≤_, _<_, min};
 ghost use lib.ListN.{length};
 ghost use Rattle.blur.specs.Blur.{acrossAt};
-ghost use Rattle.blur.specs.Lines.{Map, Radii, Holds, Across, Shared, columns};
-use crate::lines;
+ghost use Rattle.blur.specs.Passes.{Map, Radii, Holds, Across, Shared, columns};
 use kernels::Kernel;
 
 // The place t before a; the first where there is none.

@@ -3,8 +3,8 @@ ghost use mathlib.Core.Path.{_≡_};
 ghost use Prim.Native.Nat.{_+_, _≤_, _<_};
 ghost use lib.ListN.{length};
 ghost use Rattle.grid.specs.Grid.{listOf, Stored};
-ghost use Rattle.blur.specs.Lines.{Padded, Held, Along, alongTo};
-use crate::lines;
+ghost use Rattle.lines.specs.Lines.{Padded, Held};
+ghost use Rattle.blur.specs.Passes.{Along, alongTo};
 use kernels::Kernel;
 
 // One, two or four taps more; how many are then done.

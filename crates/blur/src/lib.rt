@@ -1,5 +1,4 @@
 // Two levels of a raw map at once, by two kernels: the pair sums of the first pass are made once for both.
-mod lines; // lines.rt: floats weighed, added in pairs, and repeated
 mod across; // across.rt: the first pass, across columns, for two kernels at once
 mod along; // along.rt: the second pass, along a line
 
@@ -8,7 +7,7 @@ ghost use Prim.Native.Nat.{_+_, _*_, _≤_};
 ghost use lib.ListN.{length};
 ghost use Rattle.grid.specs.Grid.{listOf, Stored};
 ghost use Rattle.blur.specs.Blur.{levelAt, levelOf};
-ghost use Rattle.blur.specs.Lines.{Map, Plane, Radii, Drawn, alongTo};
+ghost use Rattle.blur.specs.Passes.{Map, Plane, Radii, Drawn, alongTo};
 use kernels::Kernel;
 
 // A line of the first pass is padded, and its second pass goes to the buffer from place at on.

@@ -1,4 +1,5 @@
 -- The worked cases, in one table.
 pub mod Case
 pub mod MapM
+pub mod Raw
 pub mod Table

@@ -4,6 +4,7 @@ use mathlib.Core.Bool.{true, false}
 use Rattle.tables.specs.Set.{blank}
 use Rattle.tables.specs.SetT.{sigmasT, cubicT, setT}
 use Rattle.cases.specs.Case.{Case, rootCase, logCase, nearestCase, valueCase, extremeCase, countCase, envelopeCase, correctionCase}
+use Rattle.cases.specs.Raw.{radiusCase, radiiCase, tapCase, levelCase, wholeCase, rawCase}
 use Rattle.cases.specs.MapM.{put, levelM, bytesM, mapCase, sizedCase, thresholdsOf, thresholdsM, checksCase}
 
 -- the worked cases in document 01's order; after P12 the other cases of the correction, then those of document 02's requests
@@ -75,4 +76,38 @@ table =
     -- Its 21 pixels stay those around (4,4): with (4,7) of level 0 NaN it is as P9, with (4,2) there is none.
     ∷ mapCase (put 4 7 0x7fc00000 levelM) bytesM
     ∷ mapCase (put 4 2 0x7fc00000 levelM) []
+    -- No. 3 the radius for a sigma of NaN, -1, 0, the f32 just below epsilon, epsilon, 0.1, the f32 1/3 and the next, 5, the next, 6 and infinity.
+    ∷ radiusCase 0x7fc00000 0
+    ∷ radiusCase 0xbf800000 0
+    ∷ radiusCase 0x00000000 0
+    ∷ radiusCase 0x33ffffff 0
+    ∷ radiusCase 0x34000000 1
+    ∷ radiusCase 0x3dcccccd 1
+    ∷ radiusCase 0x3eaaaaab 1
+    ∷ radiusCase 0x3eaaaaac 2
+    ∷ radiusCase 0x40a00000 15
+    ∷ radiusCase 0x40a00001 16
+    ∷ radiusCase 0x40c00000 16
+    ∷ radiusCase 0x7f800000 16
+    -- Set T's radii in octave 0, and in octave 1, whose first level is left the floor of 0.1.
+    ∷ radiiCase 0 (3 ∷ 6 ∷ 9 ∷ 12 ∷ [])
+    ∷ radiiCase 1 (1 ∷ 4 ∷ 8 ∷ 12 ∷ [])
+    -- Tap 1 of its level 1 in octave 0, by our exp.
+    ∷ tapCase 0 1 1 0x3e38c060
+    -- A map of one pixel, -0, stays -0: a sum starts with the centre, not with +0.
+    ∷ levelCase 1 1 0 (0x80000000 ∷ []) (0x80000000 ∷ [])
+    -- Level 0 of the map with columns (1, 2), (3, 5) and (8, 13).
+    ∷ levelCase 2 3 0 (0x3f800000 ∷ 0x40000000 ∷ 0x40400000 ∷ 0x40a00000 ∷ 0x41000000 ∷ 0x41500000 ∷ [])
+    (0x4004c128 ∷ 0x402d1eb3 ∷ 0x408fccf3 ∷ 0x40b53bdf ∷ 0x40f69c76 ∷ 0x4119f3ac ∷ [])
+    -- A lost pixel at the start of a line of six: with a radius of 3 the last two are finite, whether it is NaN or infinite, row or column.
+    ∷ wholeCase 1 6 0 (0x7fc00000 ∷ 0 ∷ 0 ∷ 0 ∷ 0 ∷ 0 ∷ []) (0 ∷ 0 ∷ 0 ∷ 0 ∷ 1 ∷ 1 ∷ [])
+    ∷ wholeCase 6 1 0 (0xff800000 ∷ 0 ∷ 0 ∷ 0 ∷ 0 ∷ 0 ∷ []) (0 ∷ 0 ∷ 0 ∷ 0 ∷ 1 ∷ 1 ∷ [])
+    -- The checks of levels: 1, 2, 3, 4, 6, each before the next where both hold; buffers longer than the map are taken.
+    ∷ rawCase 0 0 4097 0 6 blank (1 ∷ [])
+    ∷ rawCase 5 0 2 3 6 blank (2 ∷ [])
+    ∷ rawCase 6 0 2 3 6 blank (3 ∷ [])
+    ∷ rawCase 6 0 2 3 5 blank (4 ∷ [])
+    ∷ rawCase 6 5 2 3 5 setT (6 ∷ [])
+    ∷ rawCase 6 6 2 3 5 setT (0 ∷ [])
+    ∷ rawCase 6 7 2 3 5 setT (0 ∷ [])
     ∷ []

@@ -1,21 +1,18 @@
 -- The radii of a good set's kernels never fall from level to level, and each is 1 to 16. Assumes nothing.
 use Prim.Native.Nat.{ℕ, zero, suc, _+_, _-_, _*_, _/_, _^_, _≤_, _<_, min}
-use native.Mathlib.Nat.{le-of-lt, lt-div-mul-add, le-trans, le-of-eq, lt-of-lt-of-le, lt-of-le-of-lt, lt-trans, le-of-suc-le-suc, lt-of-not-le, not-le-of-lt, eq-or-lt-of-le, eq-zero-or-pos, mul-pos, mul-comm, mul-assoc, mul-left-comm, mul-right-comm, mul-le-mul, mul-le-mul-right, le-of-mul-le-mul-right, div-lt-iff-lt-mul, le-div-iff-mul-le, suc-mul, mul-sub, zero-mul}
+use native.Mathlib.Nat.{lt-div-mul-add, le-trans, le-of-eq, le-of-suc-le-suc, mul-pos, mul-right-comm, mul-le-mul-right, le-of-mul-le-mul-right, div-lt-iff-lt-mul, le-div-iff-mul-le, suc-mul, zero-mul}
 use native.Mathlib.Omega.{arith}
 use mathlib.Core.Path.{_≡_, refl, sym, ap, subst, _∙_}
-use mathlib.Core.Bool.{Bool, true, false, cond, not, _&&_, _||_, true≢false, false≢true}
+use mathlib.Core.Bool.{Bool, true, false, cond, false≢true}
 use mathlib.Core.Logic.{_⊎_, ⊎-elim, inl, inr}
 use mathlib.Core.List.{List}
 use lib.IntN.{ℤ, pos, negsuc}
 use lib.ListN.{getD}
-use lib.Pow.{pow-pos, pow-add, pow-mono}
-use lib.Dec.{T, ltb, leb, eqb, ltb→lt, lt→ltb, eqb→eq, lit<, lit≤}
-use lib.Ieee.{Float, nan, inf, fin, binary32, up, down, lt, le, eq, isNan, fits, round, units, odd, neg, add, sub, mul, div, sum, ofBits}
-use lib.Ieee.Exact.{HasValue}
-use lib.Ieee.Fits.{up-pos, down-pos, round-is, sub-fits, and-l}
-use lib.Ieee.Order.{round-mono, le-of-values}
-use lib.Ieee.Positive.{num, den, positive, den-pos, le→cross, cross→le, values-of-le, mul-mono, above-of-le, le-trans-positive, positive-of-value, through}
-use borrow.Author.Tests.{ltb-true, ltb-false, lt-ltb, le-ltb}
+use lib.Dec.{T, eqb, ltb→lt, lt→ltb, eqb→eq, lit<, lit≤}
+use lib.Ieee.{Float, nan, inf, fin, binary32, up, down, lt, le, isNan, fits, round, odd, mul, div, ofBits}
+use lib.Ieee.Fits.{up-pos, down-pos, sub-fits}
+use lib.Ieee.Positive.{num, den, positive, le→cross, mul-mono, through}
+use borrow.Author.Tests.{ltb-true, lt-ltb, le-ltb}
 use Rattle.float.specs.Num.{_⊖_, _⊗_, _⊘_, f0, f2}
 use Rattle.float.specs.Small.{maxOf, finite}
 use Rattle.float.specs.Sqrt.{sqrtOf}

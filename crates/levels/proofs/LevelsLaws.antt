@@ -2,8 +2,8 @@
 use Prim.Native.Nat.{ℕ, _+_, _*_, _≤_, _<_}
 use native.Mathlib.Nat.{mul-comm}
 use native.Mathlib.Omega.{arith}
-use mathlib.Core.Path.{_≡_, refl, sym, _∙_}
-use mathlib.Core.Bool.{true, not}
+use mathlib.Core.Path.{_≡_, refl, _∙_}
+use mathlib.Core.Bool.{true}
 use mathlib.Core.List.{List}
 use lib.ListN.{length, getD}
 use lib.Dec.{eqb}
@@ -24,7 +24,7 @@ use Rattle.grid.proofs.StoredLaws.{stored-start, start-length, start-at, start-
 use Rattle.kernels.specs.declared.Kernel.{Kernel}
 use Rattle.kernels.specs.Kernel.{kernelsOf}
 use Rattle.blur.specs.Blur.{levelOf, levelAt}
-use Rattle.blur.specs.Lines.{Plane}
+use Rattle.blur.specs.Passes.{Plane}
 use Rattle.blur.proofs.LevelLaws.{length-level, level-pixel}
 use Rattle.levels.specs.declared.Blurred.the-variants.{Made, Refused}
 use Rattle.levels.specs.Levels.{levelsChecks, Outcome, outcome, placed, made, levelsOf}

@@ -4,7 +4,7 @@ mod checks; // checks.rt: the checks, in their order
 ghost use mathlib.Core.Path.{_≡_};
 ghost use Prim.Native.Nat.{_+_, _<_};
 ghost use lib.ListN.{length};
-ghost use Rattle.blur.specs.Lines.{Plane};
+ghost use Rattle.blur.specs.Passes.{Plane};
 ghost use Rattle.levels.specs.Levels.{outcome, placed, levelsOf};
 use kernels::gauss::octave_kernel;
 use tables::Checked;

@@ -14,7 +14,7 @@ use Rattle.grid.specs.Grid.{atStart, Stored}
 use Rattle.grid.proofs.StoredLaws.{stored-start}
 use Rattle.kernels.specs.declared.Kernel.{Kernel}
 use Rattle.blur.specs.Blur.{levelOf}
-use Rattle.blur.specs.Lines.{Plane}
+use Rattle.blur.specs.Passes.{Plane}
 use Rattle.blur.proofs.LevelLaws.{length-level}
 use Rattle.probe.specs.Blurs.{misfits}
 

@@ -1,9 +1,9 @@
 -- Demand 3 over raw maps. Assumes nothing.
-use Prim.Native.Nat.{ℕ, _+_, _-_, _*_, _/_, _%_, _≤_, _<_, max}
+use Prim.Native.Nat.{ℕ, _-_, _*_, _/_, _%_, _≤_, _<_}
 use native.Mathlib.Omega.{arith}
 use native.Mathlib.Nat.{eq-zero-or-pos}
-use mathlib.Core.Path.{_≡_, refl, sym, _∙_}
-use mathlib.Core.Bool.{Bool, true, false, cond, not}
+use mathlib.Core.Path.{_≡_, refl, _∙_}
+use mathlib.Core.Bool.{Bool, true, false}
 use mathlib.Core.Logic.{_⊎_, ⊎-elim, inl, inr}
 use mathlib.Core.List.{List, [], _∷_}
 use lib.ListN.{length}
@@ -27,10 +27,10 @@ use Rattle.kernels.specs.declared.Kernel.{Kernel}
 use Rattle.kernels.specs.Kernel.{kernelsOf}
 use Rattle.kernels.proofs.Radii.{radii-rise}
 use Rattle.blur.specs.Blur.{levelOf}
-use Rattle.blur.specs.Reach.{off, touched, reached, LossyRaw}
+use Rattle.blur.specs.Reach.{off, reached, LossyRaw}
 use Rattle.blur.proofs.LevelLaws.{level-pixel}
 use Rattle.blur.proofs.ReachLaws.{level-finite, level-stays, reached-elim}
-use Rattle.demands.specs.TwoMaps.{clear, spared, keep, Same, finites, Lossy, Struck}
+use Rattle.demands.specs.TwoMaps.{spared, keep, Same, finites, Lossy, Struck}
 use Rattle.demands.proofs.TwoMaps.{two-maps}
 use Rattle.demands.proofs.Answers.{answered}
 use Rattle.raw.specs.Raw.{mapsBy, levelMaps, largest, reachOf, sparedRaw}

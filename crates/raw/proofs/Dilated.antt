@@ -1,15 +1,15 @@
 -- The 21 pixels widened by a square of d are the square of d + 2 without its four corners. Assumes nothing.
-use Prim.Native.Nat.{ℕ, zero, suc, _+_, _-_, _≤_, _<_, min, max}
+use Prim.Native.Nat.{ℕ, _+_, _-_, _≤_, min, max}
 use native.Mathlib.Omega.{arith}
 use native.Mathlib.Nat.{eq-or-lt-of-le}
 use mathlib.Core.Path.{_≡_, refl, sym, _∙_}
 use mathlib.Core.Bool.{Bool, true, false, not, _&&_, and-false}
 use mathlib.Core.Logic.{_⊎_, ⊎-elim, inl, inr, _↔_}
-use lib.Dec.{leb, eqb}
-use borrow.Author.Tests.{leb-true, le-leb, eq-eqb, eqb-false, ne-eqb, not-true}
+use lib.Dec.{eqb}
+use borrow.Author.Tests.{eq-eqb, eqb-false, ne-eqb}
 use Rattle.float.proofs.Bools.{both, second-false, excluded}
 use Rattle.blur.specs.Reach.{off, near, corner, reached, touched}
-use Rattle.blur.proofs.ReachLaws.{near-is, is-near, somewhere-none, somewhere-elim, somewhere-at, not-reached, reached-elim, reached-at}
+use Rattle.blur.proofs.ReachLaws.{near-is, is-near, somewhere-none, somewhere-elim, reached-elim, reached-at}
 use Rattle.demands.specs.TwoMaps.{of21, clear}
 use Rattle.demands.proofs.Ring.{in-middle, by-row, by-col}
 use Rattle.demands.proofs.Clear.{clear-is}

@@ -1,12 +1,9 @@
 -- `column` meets its contract.
 use native.Mathlib.Omega.{arith}
-use Rattle.blur.specs.Lines.{Drawn}
-use Rattle.blur.proofs.LineLaws.{stored-same, column-inside, map-most, column-is}
+use Rattle.blur.proofs.PassLaws.{stored-same, column-inside, map-most, column-is}
 use borrow.Author.Needs.{needs}
 use Rattle.blur.proofs.column.Statement.{statement}
 use Rattle.blur.proofs.column.Tie as tie
-use Rattle.blur.proofs.across.both.Reads as both-reads
-use Rattle.blur.proofs.finish.Reads as finish-reads
 
 both-requires : tie.Need-both-requires
 both-requires c κs = search needs

@@ -1,10 +1,8 @@
 -- `finish` meets its contract.
-use Rattle.blur.proofs.LineLaws.{stored-same, along-kept}
+use Rattle.blur.proofs.PassLaws.{stored-same, along-kept}
 use borrow.Author.Needs.{needs}
 use Rattle.blur.proofs.finish.Statement.{statement}
 use Rattle.blur.proofs.finish.Tie as tie
-use Rattle.blur.proofs.along.along.Reads as along-reads
-use Rattle.blur.proofs.lines.pad.Reads as pad-reads
 
 pad-requires : tie.Need-pad-requires
 pad-requires c κs = search needs

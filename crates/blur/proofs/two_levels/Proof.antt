@@ -10,7 +10,6 @@ use Rattle.grid.proofs.StoredLaws.{stored-none, stored-append, stored-length}
 use Rattle.blur.specs.Blur.{levelAt, levelOf}
 use Rattle.blur.proofs.two_levels.Statement.{statement}
 use Rattle.blur.proofs.two_levels.Tie as tie
-use Rattle.blur.proofs.column.Reads as column-reads
 
 abbrev Inv-loop : tie.InvT-loop
 Inv-loop raw rows cols j k x₀ y₀ a₀ b₀ c₀ x y a b c =

@@ -6,8 +6,6 @@ use Rattle.levels.proofs.LevelsLaws.{checks-passed}
 use borrow.Author.Needs.{needs}
 use Rattle.levels.proofs.levels.Statement.{statement}
 use Rattle.levels.proofs.levels.Tie as tie
-use Rattle.levels.proofs.checks.checked.Reads as checked-reads
-use Rattle.levels.proofs.two.Reads as two-reads
 
 checked-requires : tie.Need-checked-requires
 checked-requires c κs = search needs

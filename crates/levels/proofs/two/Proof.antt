@@ -1,13 +1,10 @@
 -- `two` meets its contract.
-use native.Mathlib.Omega.{arith}
 use Prim.Native.Nat.{_+_}
 use Rattle.kernels.proofs.Radii.{radius-within}
 use Rattle.levels.proofs.LevelsLaws.{placed-is}
 use borrow.Author.Needs.{needs}
 use Rattle.levels.proofs.two.Statement.{statement}
 use Rattle.levels.proofs.two.Tie as tie
-use Rattle.blur.proofs.two_levels.Reads as two-levels-reads
-use Rattle.kernels.proofs.gauss.octave_kernel.Reads as octave-kernel-reads
 
 array-read-octave-kernel : tie.Need-array-read-octave-kernel
 array-read-octave-kernel c = search needs

@@ -4,9 +4,6 @@ use Rattle.alp_c.proofs.FaceLaws.{levels-left-by}
 use borrow.Author.Needs.{needs}
 use Rattle.alp_c.proofs.raw.uramsheg_levels.Statement.{statement}
 use Rattle.alp_c.proofs.raw.uramsheg_levels.Tie as tie
-use Rattle.levels.proofs.levels.Reads as levels-reads
-use Rattle.tables.proofs.read_set.Reads as read-set-reads
-use Rattle.tables.proofs.refusals.number_of.Reads as number-of-reads
 
 read-set-requires : tie.Need-read-set-requires
 read-set-requires c κs = search needs

@@ -3,10 +3,9 @@ use native.Mathlib.Omega.{arith}
 use mathlib.Core.Path.{_≡_}
 use Prim.Native.Nat.{_-_, _≤_}
 use Rattle.blur.specs.Blur.{acrossAt}
-use Rattle.blur.specs.Lines.{Holds, columns}
+use Rattle.blur.specs.Passes.{Holds, columns}
 use Rattle.blur.proofs.across.rest.Statement.{statement}
 use Rattle.blur.proofs.across.rest.Tie as tie
-use Rattle.blur.proofs.across.step.Reads as step-reads
 
 abbrev Inv-loop : tie.InvT-loop
 Inv-loop raw rows cols col k t line₀ s₀ line s = (s ≤ k .radius) × Holds line rows (columns raw rows cols (k .taps) col s)

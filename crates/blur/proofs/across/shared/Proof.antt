@@ -3,13 +3,10 @@ use native.Mathlib.Omega.{arith}
 use mathlib.Core.Path.{_≡_}
 use Prim.Native.Nat.{_-_, _≤_, min}
 use borrow.Author.Needs.{needs}
-use Rattle.blur.specs.Lines.{Holds, Shared, columns}
-use Rattle.blur.proofs.LineLaws.{line-holds, column-inside, map-most, across-first}
+use Rattle.blur.specs.Passes.{Holds, columns}
+use Rattle.blur.proofs.PassLaws.{line-holds, column-inside, map-most, across-first}
 use Rattle.blur.proofs.across.shared.Statement.{statement}
 use Rattle.blur.proofs.across.shared.Tie as tie
-use Rattle.blur.proofs.across.smaller.Reads as smaller-reads
-use Rattle.blur.proofs.across.step_both.Reads as step-both-reads
-use Rattle.blur.proofs.lines.weigh.Reads as weigh-reads
 
 abbrev Inv-loop : tie.InvT-loop
 Inv-loop raw rows cols col a₀ b₀ j k least t₀ a b t =

@@ -1,15 +1,9 @@
 -- `across::step` meets its contract.
 use native.Mathlib.Omega.{arith}
-use mathlib.Core.Path.{_≡_}
-use Rattle.blur.specs.Lines.{Across}
-use Rattle.blur.proofs.LineLaws.{line-holds, lower-inside, upper-inside, map-most, column-place, across-more, across-two}
+use Rattle.blur.proofs.PassLaws.{line-holds, lower-inside, upper-inside, map-most, column-place, across-more, across-two}
 use borrow.Author.Needs.{needs}
 use Rattle.blur.proofs.across.step.Statement.{statement}
 use Rattle.blur.proofs.across.step.Tie as tie
-use Rattle.blur.proofs.across.lower.Reads as lower-reads
-use Rattle.blur.proofs.across.upper.Reads as upper-reads
-use Rattle.blur.proofs.lines.add.Reads as add-reads
-use Rattle.blur.proofs.lines.add_two.Reads as add-two-reads
 
 add-s : tie.Need-add-s
 add-s c = search needs

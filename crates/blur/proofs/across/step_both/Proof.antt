@@ -1,13 +1,9 @@
 -- `across::step_both` meets its contract.
 use native.Mathlib.Omega.{arith}
-use mathlib.Core.Path.{_≡_}
-use Rattle.blur.proofs.LineLaws.{line-holds, lower-inside, upper-inside, map-most, column-place, across-two}
+use Rattle.blur.proofs.PassLaws.{line-holds, lower-inside, upper-inside, map-most, column-place, across-two}
 use borrow.Author.Needs.{needs}
 use Rattle.blur.proofs.across.step_both.Statement.{statement}
 use Rattle.blur.proofs.across.step_both.Tie as tie
-use Rattle.blur.proofs.across.lower.Reads as lower-reads
-use Rattle.blur.proofs.across.upper.Reads as upper-reads
-use Rattle.blur.proofs.lines.add_both.Reads as add-both-reads
 
 add-s : tie.Need-add-s
 add-s c = search needs

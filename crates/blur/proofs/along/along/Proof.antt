@@ -1,15 +1,13 @@
 -- `along::along` meets its contract. The loop's invariant: the pass by the taps up to t is stored.
 use native.Mathlib.Omega.{arith}
 use mathlib.Core.Path.{_≡_, _∙_}
-use Prim.Native.Nat.{_+_, _-_, _≤_}
+use Prim.Native.Nat.{_-_, _≤_}
 use Rattle.grid.specs.Grid.{listOf, Stored}
 use Rattle.grid.proofs.StoredLaws.{stored-length, stored-float, stored-self}
-use Rattle.blur.specs.Lines.{alongTo}
-use Rattle.blur.proofs.LineLaws.{stored-over, along-first}
+use Rattle.blur.specs.Passes.{alongTo}
+use Rattle.blur.proofs.PassLaws.{stored-over, along-first}
 use Rattle.blur.proofs.along.along.Statement.{statement}
 use Rattle.blur.proofs.along.along.Tie as tie
-use Rattle.blur.proofs.along.step.Reads as step-reads
-use Rattle.blur.proofs.lines.weigh.Reads as weigh-reads
 
 abbrev Inv-loop : tie.InvT-loop
 Inv-loop line rows out₀ at k t₀ out t = (t ≤ k .radius) × Stored out₀ out at (listOf (alongTo line rows (k .taps) t) rows)

@@ -1,14 +1,9 @@
 -- `along::step` meets its contract.
 use native.Mathlib.Omega.{arith}
-use mathlib.Core.Path.{_≡_}
-use Rattle.blur.specs.Lines.{Along}
-use Rattle.blur.proofs.LineLaws.{stored-same, along-more, along-two, along-four}
+use Rattle.blur.proofs.PassLaws.{stored-same, along-more, along-two, along-four}
 use borrow.Author.Needs.{needs}
 use Rattle.blur.proofs.along.step.Statement.{statement}
 use Rattle.blur.proofs.along.step.Tie as tie
-use Rattle.blur.proofs.lines.add.Reads as add-reads
-use Rattle.blur.proofs.lines.add_four.Reads as add-four-reads
-use Rattle.blur.proofs.lines.add_two.Reads as add-two-reads
 
 add-s : tie.Need-add-s
 add-s c = search needs

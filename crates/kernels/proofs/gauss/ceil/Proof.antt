@@ -1,5 +1,5 @@
 -- `gauss::ceil` meets its contract. The loop's invariant: every number under n is below x.
-use mathlib.Core.Path.{_≡_, sym, _∙_}
+use mathlib.Core.Path.{_≡_}
 use mathlib.Core.Bool.{true, false}
 use mathlib.Core.Logic.{inl, inr}
 use Prim.Native.Nat.{ℕ, _≤_, _<_, _-_}
@@ -8,7 +8,7 @@ use native.Mathlib.Omega.{arith}
 use lib.Ieee.{lt}
 use borrow.Author.Count.{below-more}
 use borrow.Author.Tests.{not-true, not-false}
-use Rattle.kernels.specs.Kernel.{float, ceilOf}
+use Rattle.kernels.specs.Kernel.{float}
 use Rattle.kernels.proofs.Ceil.{ceil-is}
 use Rattle.kernels.proofs.gauss.ceil.Statement.{statement}
 use Rattle.kernels.proofs.gauss.ceil.Tie as tie

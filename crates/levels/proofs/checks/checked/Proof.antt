@@ -8,8 +8,6 @@ use Rattle.levels.specs.Levels.{levelsChecks}
 use borrow.Author.Needs.{needs}
 use Rattle.levels.proofs.checks.checked.Statement.{statement}
 use Rattle.levels.proofs.checks.checked.Tie as tie
-use Rattle.levels.proofs.checks.short.Reads as short-reads
-use Rattle.tables.proofs.is_good.Reads as is-good-reads
 
 returns : tie.Need-returns
 unfolding levelsChecks firstOf unless

@@ -9,7 +9,6 @@ use Rattle.probe.specs.Blurs.{kernelPart}
 use borrow.Author.Needs.{needs}
 use Rattle.probe.proofs.blurs.part.Statement.{statement}
 use Rattle.probe.proofs.blurs.part.Tie as tie
-use Rattle.probe.proofs.parts.number_at.Reads as number-at-reads
 
 int-to-float-result : tie.Need-int-to-float-result
 unfolding inFloat

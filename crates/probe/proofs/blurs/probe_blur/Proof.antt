@@ -5,9 +5,6 @@ use Rattle.probe.proofs.Fitting.{fits, level-start}
 use borrow.Author.Needs.{needs}
 use Rattle.probe.proofs.blurs.probe_blur.Statement.{statement}
 use Rattle.probe.proofs.blurs.probe_blur.Tie as tie
-use Rattle.blur.proofs.two_levels.Reads as two-levels-reads
-use Rattle.probe.proofs.blurs.misfit.Reads as misfit-reads
-use Rattle.probe.proofs.blurs.seventeen.Reads as seventeen-reads
 
 misfit-requires : tie.Need-misfit-requires
 misfit-requires c κs = search needs

@@ -3,8 +3,6 @@ use Rattle.kernels.proofs.Radii.{radius-most}
 use borrow.Author.Needs.{needs}
 use Rattle.probe.proofs.blurs.probe_gaussian.Statement.{statement}
 use Rattle.probe.proofs.blurs.probe_gaussian.Tie as tie
-use Rattle.kernels.proofs.gauss.gaussian.Reads as gaussian-reads
-use Rattle.probe.proofs.blurs.part.Reads as part-reads
 
 gaussian-requires : tie.Need-gaussian-requires
 gaussian-requires c κs = search needs

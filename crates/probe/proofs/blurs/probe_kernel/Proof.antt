@@ -4,8 +4,6 @@ use Rattle.kernels.proofs.Radii.{radius-most}
 use borrow.Author.Needs.{needs}
 use Rattle.probe.proofs.blurs.probe_kernel.Statement.{statement}
 use Rattle.probe.proofs.blurs.probe_kernel.Tie as tie
-use Rattle.kernels.proofs.gauss.octave_kernel.Reads as octave-kernel-reads
-use Rattle.probe.proofs.blurs.part.Reads as part-reads
 
 octave-kernel-requires : tie.Need-octave-kernel-requires
 octave-kernel-requires c κs = search needs

@@ -3,7 +3,6 @@ use Rattle.probe.specs.Blurs.{firstSeventeen}
 use borrow.Author.Needs.{needs}
 use Rattle.probe.proofs.blurs.seventeen.Statement.{statement}
 use Rattle.probe.proofs.blurs.seventeen.Tie as tie
-use Rattle.probe.proofs.parts.number_at.Reads as number-at-reads
 
 number-at-requires : tie.Need-number-at-requires
 number-at-requires c κs = search needs

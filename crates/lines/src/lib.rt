@@ -3,7 +3,7 @@ ghost use mathlib.Core.Path.{_≡_};
 ghost use Prim.Native.Nat.{_+_, _-_, _≤_};
 ghost use lib.ListN.{length};
 ghost use Rattle.grid.specs.Grid.{listOf, Stored};
-ghost use Rattle.blur.specs.Lines.{from, weighed, more, Padding};
+ghost use Rattle.lines.specs.Lines.{from, weighed, more, Padding};
 
 // The n floats of a list from p on, times w, go to the places from at on.
 pub fn weigh(list: &[f32], p: usize, n: usize, w: f32, out: &mut [f32], at: usize)

@@ -1,11 +1,10 @@
--- `lines::pad` meets its contract.
+-- `pad` meets its contract.
 use native.Mathlib.Omega.{arith}
 use Rattle.grid.proofs.StoredLaws.{stored-length}
-use Rattle.blur.proofs.LineLaws.{padding}
+use Rattle.lines.proofs.LineLaws.{padding}
 use borrow.Author.Needs.{needs}
-use Rattle.blur.proofs.lines.pad.Statement.{statement}
-use Rattle.blur.proofs.lines.pad.Tie as tie
-use Rattle.blur.proofs.lines.repeat.Reads as repeat-reads
+use Rattle.lines.proofs.pad.Statement.{statement}
+use Rattle.lines.proofs.pad.Tie as tie
 
 element-copy-out-first : tie.Need-element-copy-out-first
 element-copy-out-first c = search needs

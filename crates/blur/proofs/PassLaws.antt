@@ -1,4 +1,4 @@
--- Laws of lines: what is stored, the padding, and the two passes by lines. Assumes nothing.
+-- Laws of the two passes by lines. Assumes nothing.
 use Prim.Native.Nat.{ℕ, suc, _+_, _-_, _*_, _≤_, _<_, min}
 use native.Mathlib.Nat.{suc-mul, mul-comm, mul-le-mul-right, eq-zero-or-pos}
 use native.Mathlib.Numerals.{add-one}
@@ -8,13 +8,14 @@ use mathlib.Core.Logic.{⊎-elim}
 use mathlib.Core.List.{List}
 use lib.ListN.{length, getD}
 use lib.Ieee.{Float, nan}
-use Rattle.float.specs.Num.{_⊕_, _⊗_}
 use Rattle.grid.specs.Grid.{pixelAt, listOf, Stored}
 use Rattle.grid.proofs.GridLaws.{length-list, list-same, area}
-use Rattle.grid.proofs.StoredLaws.{stored-length, stored-before, stored-past, stored-float, stored-again}
+use Rattle.grid.proofs.StoredLaws.{stored-length, stored-float, stored-again}
 use Rattle.kernels.specs.declared.Kernel.{Kernel}
 use Rattle.blur.specs.Blur.{passTo, acrossAt, levelAt}
-use Rattle.blur.specs.Lines.{from, weighed, more, lineAt, columns, alongTo, Held, Holds, Padded, Padding, Map}
+use Rattle.lines.specs.Lines.{from, weighed, more, lineAt, Padded, Padding}
+use Rattle.lines.proofs.LineLaws.{at-place}
+use Rattle.blur.specs.Passes.{columns, alongTo, Holds, Map}
 use Rattle.blur.proofs.Pass.{pass-same}
 
 -- ---- what is stored
@@ -33,40 +34,6 @@ stored-same {n = n} f g p same = rw (← list-same f g n same) p
 -- n floats stored over n floats
 pub stored-over : {a b c : List Float} {at : ℕ} (n : ℕ) (f g : ℕ → Float) → Stored a b at (listOf f n) → Stored b c at (listOf g n) → at + n ≤ length a → Stored a c at (listOf g n)
 stored-over n f g p q room = stored-again p q (length-list f n ∙ sym (length-list g n)) (omega (arith, length-list g n))
-
--- ---- the padding
-
-at-place : (l : List Float) (i j : ℕ) → i ≡ j → getD l i nan ≡ getD l j nan
-at-place l i j e = ap (λ (k : ℕ). getD l k nan) e
-
--- the first float repeated before a line of n floats, and then the last behind it
-pub padding : {l l' l'' : List Float} (n : ℕ) → 1 ≤ n → n ≤ 4096 → length l ≡ 4128 → Stored l l' 0 (listOf (λ i. getD l 16 nan) 16) → Stored l' l'' (16 + n) (listOf (λ i. getD l (15 + n) nan) 16)
-    → Padding l l'' n
-padding {l} {l'} {l''} n some most long p q = record {
-  padded = record { some = some; most = most; long = stored-length q ∙ stored-length p ∙ long; before = before; behind = behind };
-  kept = kept;
-}
-  where
-    first : ℕ → Float
-    first i = getD l 16 nan
-
-    last : ℕ → Float
-    last i = getD l (15 + n) nan
-
-    kept : Held l'' 16 n (lineAt l)
-    kept i less =
-        stored-before q (16 + i) (omega arith) ∙ stored-past p (16 + i) (omega (arith, length-list first 16))
-
-    before : (j : ℕ) → j < 16 → getD l'' j nan ≡ lineAt l'' 0
-    before j less =
-        stored-before q j (omega arith) ∙ at-place l' j (0 + j) (omega arith) ∙ stored-float {at = 0} first p (omega arith) j less ∙ sym (kept 0 (omega arith))
-
-    behind : (j : ℕ) → j < 16 → lineAt l'' (n + j) ≡ lineAt l'' (n - 1)
-    behind j less =
-        at-place l'' (16 + (n + j)) (16 + n + j) (omega arith)
-        ∙ stored-float last q (omega (arith, stored-length p)) j less
-        ∙ at-place l (15 + n) (16 + (n - 1)) (omega arith)
-        ∙ sym (kept (n - 1) (omega arith))
 
 -- ---- the first pass, by lines
 

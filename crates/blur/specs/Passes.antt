@@ -1,29 +1,13 @@
--- What the loops of the two passes leave, and what they ask. Definitions only.
-use Prim.Native.Nat.{ℕ, _+_, _-_, _*_, _≤_, _<_}
+-- What the two passes ask and leave, line by line. Definitions only.
+use Prim.Native.Nat.{ℕ, _-_, _*_, _≤_, _<_}
 use mathlib.Core.Path.{_≡_}
 use mathlib.Core.List.{List}
-use lib.ListN.{length, getD}
-use lib.Ieee.{Float, nan}
-use Rattle.float.specs.Num.{_⊕_, _⊗_}
+use lib.ListN.{length}
+use lib.Ieee.{Float}
 use Rattle.grid.specs.Grid.{pixelAt, listOf, Stored}
 use Rattle.kernels.specs.declared.Kernel.{Kernel}
+use Rattle.lines.specs.Lines.{lineAt, Held}
 use Rattle.blur.specs.Blur.{passTo}
-
--- the floats of a list from place p on
-abbrev pub from : List Float → ℕ → ℕ → Float
-from l p i = getD l (p + i) nan
-
--- a weighing: the floats of l from p on, times w
-unfoldable pub weighed : List Float → ℕ → Float → ℕ → Float
-weighed l p w i = from l p i ⊗ w
-
--- an adding to f: the two floats of l from lo and from hi on, summed first, times w
-unfoldable pub more : (ℕ → Float) → List Float → ℕ → ℕ → Float → ℕ → Float
-more f l lo hi w i = f i ⊕ (from l lo i ⊕ from l hi i) ⊗ w
-
--- a line is 4,128 long: 16 places before 4,096 and 16 behind them; this is the float at its place j
-abbrev pub lineAt : List Float → ℕ → Float
-lineAt l = from l 16
 
 -- the pass across columns by the taps up to n
 abbrev pub columns : List Float → ℕ → ℕ → List Float → ℕ → ℕ → ℕ → Float
@@ -33,29 +17,10 @@ columns raw rows cols taps col n r = passTo (pixelAt raw rows r) (cols - 1) taps
 abbrev pub alongTo : List Float → ℕ → List Float → ℕ → ℕ → Float
 alongTo line rows taps n r = passTo (lineAt line) (rows - 1) taps r n
 
--- the n floats of l from place at on are what f gives
-abbrev pub Held : List Float → ℕ → ℕ → (ℕ → Float) → Type 0
-Held l at n f = (i : ℕ) → i < n → from l at i ≡ f i
-
 -- l is a line, and its first n floats are what f gives
 pub record Holds (l : List Float) (n : ℕ) (f : ℕ → Float) : Type 0 where
   pub long : length l ≡ 4128
   pub float : Held l 16 n f
-
--- a line of n floats: the 16 places before it hold its first, the 16 behind it its last
-pub record Padded (l : List Float) (n : ℕ) : Type 0 where
-  pub some : 1 ≤ n
-  pub most : n ≤ 4096
-  pub long : length l ≡ 4128
-  pub before : (j : ℕ) → j < 16 → getD l j nan ≡ lineAt l 0
-  pub behind : (j : ℕ) → j < 16 → lineAt l (n + j) ≡ lineAt l (n - 1)
-
--- what the padding of a line of n floats leaves
-pub record Padding (l l' : List Float) (n : ℕ) : Type 0 where
-  pub padded : Padded l' n
-  pub kept : Held l' 16 n (lineAt l)
-
--- ---- what the passes ask and leave
 
 -- a map of n floats, rows by cols, with sides of 1 to 4,096, and a column of it
 pub record Map (n rows cols col : ℕ) : Type 0 where

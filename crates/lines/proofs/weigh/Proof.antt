@@ -1,12 +1,12 @@
--- `lines::weigh` meets its contract. The loop's invariant: the first i floats are stored.
-use Prim.Native.Nat.{_+_, _≤_, _-_}
+-- `weigh` meets its contract. The loop's invariant: the first i floats are stored.
+use Prim.Native.Nat.{_≤_, _-_}
 use native.Mathlib.Omega.{arith}
 use mathlib.Core.Path.{_≡_, refl}
 use Rattle.grid.specs.Grid.{listOf, Stored}
-use Rattle.grid.proofs.StoredLaws.{stored-none, stored-next, stored-rest, stored-length}
-use Rattle.blur.specs.Lines.{weighed}
-use Rattle.blur.proofs.lines.weigh.Statement.{statement}
-use Rattle.blur.proofs.lines.weigh.Tie as tie
+use Rattle.grid.proofs.StoredLaws.{stored-none, stored-next, stored-length}
+use Rattle.lines.specs.Lines.{weighed}
+use Rattle.lines.proofs.weigh.Statement.{statement}
+use Rattle.lines.proofs.weigh.Tie as tie
 
 abbrev Inv-loop : tie.InvT-loop
 Inv-loop list p n w out₀ at i₀ out i = (i ≤ n) × Stored out₀ out at (listOf (weighed list p w) i)

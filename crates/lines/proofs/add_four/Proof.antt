@@ -1,13 +1,13 @@
--- `lines::add_four` meets its contract. The loop's invariant: the first i floats are stored.
+-- `add_four` meets its contract. The loop's invariant: the first i floats are stored.
 use Prim.Native.Nat.{_+_, _≤_, _-_}
 use native.Mathlib.Omega.{arith}
 use mathlib.Core.Path.{_≡_, refl}
 use lib.ListN.{length, length-set}
 use Rattle.grid.specs.Grid.{listOf, Stored}
 use Rattle.grid.proofs.StoredLaws.{stored-none, stored-next, stored-rest, stored-length}
-use Rattle.blur.specs.Lines.{from, more}
-use Rattle.blur.proofs.lines.add_four.Statement.{statement}
-use Rattle.blur.proofs.lines.add_four.Tie as tie
+use Rattle.lines.specs.Lines.{from, more}
+use Rattle.lines.proofs.add_four.Statement.{statement}
+use Rattle.lines.proofs.add_four.Tie as tie
 
 abbrev Inv-loop : tie.InvT-loop
 Inv-loop list lo hi w w2 w3 w4 n out₀ at i₀ out i =

@@ -1,13 +1,13 @@
--- `lines::add_both` meets its contract. The loop's invariant: the first i floats of both lines are stored.
-use Prim.Native.Nat.{_+_, _≤_, _-_}
+-- `add_both` meets its contract. The loop's invariant: the first i floats of both lines are stored.
+use Prim.Native.Nat.{_≤_, _-_}
 use native.Mathlib.Omega.{arith}
 use mathlib.Core.Path.{_≡_, refl}
 use lib.ListN.{length, length-set}
 use Rattle.grid.specs.Grid.{listOf, Stored}
 use Rattle.grid.proofs.StoredLaws.{stored-none, stored-next, stored-rest}
-use Rattle.blur.specs.Lines.{from, more}
-use Rattle.blur.proofs.lines.add_both.Statement.{statement}
-use Rattle.blur.proofs.lines.add_both.Tie as tie
+use Rattle.lines.specs.Lines.{from, more}
+use Rattle.lines.proofs.add_both.Statement.{statement}
+use Rattle.lines.proofs.add_both.Tie as tie
 
 abbrev Inv-loop : tie.InvT-loop
 Inv-loop list lo hi lo2 hi2 n u u2 v v2 a₀ b₀ i₀ a b i =

@@ -1,11 +1,11 @@
--- `lines::repeat` meets its contract. The loop's invariant: the first i places hold x.
+-- `repeat` meets its contract. The loop's invariant: the first i places hold x.
 use Prim.Native.Nat.{_≤_, _-_}
 use native.Mathlib.Omega.{arith}
 use mathlib.Core.Path.{_≡_, refl}
 use Rattle.grid.specs.Grid.{listOf, Stored}
 use Rattle.grid.proofs.StoredLaws.{stored-none, stored-next, stored-length}
-use Rattle.blur.proofs.lines.repeat.Statement.{statement}
-use Rattle.blur.proofs.lines.repeat.Tie as tie
+use Rattle.lines.proofs.repeat.Statement.{statement}
+use Rattle.lines.proofs.repeat.Tie as tie
 
 abbrev Inv-loop : tie.InvT-loop
 Inv-loop out₀ at x i₀ out i = (i ≤ 16) × Stored out₀ out at (listOf (λ j. x) i)

@@ -1,12 +1,12 @@
--- `lines::add_two` meets its contract. The loop's invariant: the first i floats are stored.
-use Prim.Native.Nat.{_+_, _≤_, _-_}
+-- `add_two` meets its contract. The loop's invariant: the first i floats are stored.
+use Prim.Native.Nat.{_≤_, _-_}
 use native.Mathlib.Omega.{arith}
-use mathlib.Core.Path.{_≡_, refl}
+use mathlib.Core.Path.{_≡_}
 use Rattle.grid.specs.Grid.{listOf, Stored}
 use Rattle.grid.proofs.StoredLaws.{stored-none, stored-next, stored-rest, stored-length}
-use Rattle.blur.specs.Lines.{from, more}
-use Rattle.blur.proofs.lines.add_two.Statement.{statement}
-use Rattle.blur.proofs.lines.add_two.Tie as tie
+use Rattle.lines.specs.Lines.{from, more}
+use Rattle.lines.proofs.add_two.Statement.{statement}
+use Rattle.lines.proofs.add_two.Tie as tie
 
 abbrev Inv-loop : tie.InvT-loop
 Inv-loop list lo hi w lo2 hi2 w2 n out₀ at i₀ out i = (i ≤ n) × Stored out₀ out at (listOf (more (more (from out₀ at) list lo hi w) list lo2 hi2 w2) i)

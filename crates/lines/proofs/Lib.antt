@@ -1,0 +1,2 @@
+-- The padding of a line.
+pub mod LineLaws

@@ -1,0 +1,2 @@
+-- Lines of floats.
+pub mod Lines
