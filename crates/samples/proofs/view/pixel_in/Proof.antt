@@ -44,7 +44,9 @@ use Rattle.samples.proofs.view.LevelView.Laws as LevelViewLaws
 use Rattle.samples.proofs.ViewRows.{pixelsLft, ViewRow, viewWord, pixelsWord, Whole, Pixels, pixels-lent}
 use Rattle.samples.proofs.view.pixel_at as reading
 use Rattle.samples.proofs.view.pixel_at.Symbol as reading-symbol
+use Rattle.samples.proofs.view.pixel_at.Symbol.{name as #reading}
 use Rattle.samples.proofs.view.pixel_at.Met as reading-met
+use Rattle.samples.proofs.view.pixel_in.Key.{name as #here}
 use Rattle.samples.proofs.view.pixel_in as here
 use Rattle.samples.proofs.view.pixel_in.Statement as stated
 use Rattle.samples.proofs.view.pixel_in.Code as code

@@ -45,7 +45,9 @@ use Rattle.samples.proofs.view.LevelView.Laws as LevelViewLaws
 use Rattle.samples.proofs.ViewRows.{pixelsLft, ViewRow, viewWord, pixelsWord, Whole, Pixels, pixels-lent}
 use Rattle.samples.proofs.view.sample_at as reading
 use Rattle.samples.proofs.view.sample_at.Symbol as reading-symbol
+use Rattle.samples.proofs.view.sample_at.Symbol.{name as #reading}
 use Rattle.samples.proofs.view.sample_at.Met as reading-met
+use Rattle.samples.proofs.view.response_in.Key.{name as #here}
 use Rattle.samples.proofs.view.response_in as here
 use Rattle.samples.proofs.view.response_in.Statement as stated
 use Rattle.samples.proofs.view.response_in.Code as code

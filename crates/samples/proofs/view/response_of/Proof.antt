@@ -45,10 +45,13 @@ use Rattle.samples.proofs.view.LevelView.Laws as LevelViewLaws
 use Rattle.samples.proofs.ViewRows.{ViewRow}
 use Rattle.samples.proofs.view.view_of as making
 use Rattle.samples.proofs.view.view_of.Symbol as making-symbol
+use Rattle.samples.proofs.view.view_of.Symbol.{name as #making}
 use Rattle.samples.proofs.view.view_of.Met as making-met
 use Rattle.samples.proofs.view.response_in as asking
 use Rattle.samples.proofs.view.response_in.Symbol as asking-symbol
+use Rattle.samples.proofs.view.response_in.Symbol.{name as #asking}
 use Rattle.samples.proofs.view.response_in.Met as asking-met
+use Rattle.samples.proofs.view.response_of.Key.{name as #here}
 use Rattle.samples.proofs.view.response_of as here
 use Rattle.samples.proofs.view.response_of.Statement as stated
 use Rattle.samples.proofs.view.response_of.Code as code

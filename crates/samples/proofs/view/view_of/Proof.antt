@@ -38,6 +38,7 @@ use Rattle.samples.specs.declared.view.LevelView.{LevelView}
 use Rattle.samples.proofs.view.LevelView as LevelViewRow
 use Rattle.samples.proofs.view.LevelView.Laws as LevelViewLaws
 use Rattle.samples.proofs.ViewRows.{pixelsLft, viewWord}
+use Rattle.samples.proofs.view.view_of.Key.{name as #here}
 use Rattle.samples.proofs.view.view_of as here
 use Rattle.samples.proofs.view.view_of.Statement as stated
 use Rattle.samples.proofs.view.view_of.Code as code
