@@ -1,7 +1,7 @@
 /* Answers calls of the detector's archive over a pipe, so that the archive of one processor can be compared on another.
  *
  * A request is a letter, then numbers and buffers as subject/src/piped.rs sends them: a number is 8 bytes, little-endian, a float its pattern as a
- * number, a buffer its length in elements and then its elements, floats of 4 bytes. An answer is numbers, and the buffer that was written.
+ * number, a buffer its length in elements and then its elements, floats of 4 bytes. An answer is numbers, and the buffers that were written.
  * It ends with its standard input. */
 #include <stdio.h>
 #include <stdlib.h>
@@ -157,6 +157,21 @@ static void downsample(void) {
     free(out.values);
 }
 
+static void levels(void) {
+    Bytes set = bytes();
+    size_t rows = number(), cols = number(), octave = number();
+    Reals raw = reals(), l[4];
+    for (int i = 0; i < 4; i++) l[i] = reals();
+    answer(uramsheg_levels(set.bytes, set.length, rows, cols, octave, raw.values, raw.length, l[0].values, l[0].length, l[1].values, l[1].length,
+                           l[2].values, l[2].length, l[3].values, l[3].length));
+    for (int i = 0; i < 4; i++) {
+        give_reals(l[i]);
+        free(l[i].values);
+    }
+    free(set.bytes);
+    free(raw.values);
+}
+
 static void set_check(void) {
     Bytes set = bytes();
     answer(uramsheg_set_check(set.bytes, set.length));
@@ -173,6 +188,7 @@ int main(void) {
         case 'o': octave_count(); break;
         case 'h': downsample(); break;
         case 's': set_check(); break;
+        case 'l': levels(); break;
         default: stop("no such request");
         }
         fflush(stdout);

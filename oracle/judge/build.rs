@@ -1,4 +1,4 @@
-//! Builds the published text twice: as it stands, for a few sets of real constants, and with the set read at run time.
+//! Builds the published text: as it stands, for a few sets of real constants, and with the set read at run time, on given levels and on raw maps.
 
 use places::{Edit, Place, edited, published_name, sha256};
 use std::env;
@@ -11,12 +11,13 @@ use substitutions::Substitution;
 mod fixed_sets;
 mod substitutions;
 
-const PUBLISHED: [&str; 3] = ["scale_fit.rs", "reference.rs", "stream.rs"];
-const DOCUMENT: [&str; 7] = [
+const PUBLISHED: [&str; 4] = ["scale_fit.rs", "reference.rs", "stream.rs", "blur.rs"];
+const DOCUMENT: [&str; 8] = [
     "admission.rs",
     "counting.rs",
     "entries.rs",
     "here.rs",
+    "levels.rs",
     "list.rs",
     "record.rs",
     "steps.rs",
@@ -170,7 +171,8 @@ fn write_digests(text: &mut String, source: &dyn Fn(&str) -> PathBuf) {
     let digests = PUBLISHED.map(|file| (file, sha256::hex(read(&source(file)).as_bytes())));
     writeln!(
         text,
-        "pub const PUBLISHED: [(&str, &str); 3] = {digests:?};"
+        "pub const PUBLISHED: [(&str, &str); {}] = {digests:?};",
+        digests.len()
     )
     .unwrap();
 }
@@ -190,7 +192,7 @@ fn write_document(
             fs::write(&path, entry.applied(&sound).unwrap()).unwrap();
         }
         let name = file.trim_end_matches(".rs");
-        let seen = if file == "steps.rs" {
+        let seen = if ["levels.rs", "steps.rs"].contains(&file) {
             "pub"
         } else {
             "pub(crate)"
@@ -212,7 +214,7 @@ fn write_fixed(
     writeln!(text, "mod fixed_builds {{").unwrap();
     if broken.is_some() {
         for name in fixed_sets::NAMES {
-            writeln!(text, "pub(crate) use crate::run as {name};").unwrap();
+            writeln!(text, "pub(crate) use crate::whole as {name};").unwrap();
         }
         writeln!(text, "}}").unwrap();
         return;
@@ -226,8 +228,9 @@ fn write_fixed(
         fs::write(&tables, tables_of(&set)).unwrap();
         fs::write(&geometry, geometry_tables_of(&set)).unwrap();
         let mut modules = vec![("tables", tables), ("geometry_tables", geometry)];
-        modules.extend(PUBLISHED.map(|file| (file.trim_end_matches(".rs"), source(file))));
-        write_build(text, name, crate_folder, &modules, &["offered"]);
+        modules.extend(PUBLISHED.map(|file| (module_of(file), source(file))));
+        let own = ["offered", "blurred"];
+        write_build(text, name, GIVEN, crate_folder, &modules, &own);
     }
     writeln!(text, "}}").unwrap();
 }
@@ -243,6 +246,7 @@ fn write_run(
         substitutions::SCALE_FIT,
         substitutions::REFERENCE,
         substitutions::STREAM,
+        substitutions::BLUR,
     ];
     let mut modules = Vec::new();
     for (file, list) in PUBLISHED.iter().zip(substitutions) {
@@ -260,22 +264,39 @@ fn write_run(
         }
         let path = out.join(format!("run_{file}"));
         fs::write(&path, rewritten).unwrap();
-        modules.push((file.trim_end_matches(".rs"), path));
+        modules.push((module_of(file), path));
     }
-    write_build(text, "run", crate_folder, &modules, &["offered", "inner"]);
+    let own = ["offered", "blurred"];
+    write_build(text, "whole", OWN, crate_folder, &modules, &own);
+    modules.pop();
+    let own = ["offered", "inner"];
+    write_build(text, "run", GIVEN, crate_folder, &modules, &own);
 }
+
+/// The module that a published file is in a build: the blur's own name is that of what the passes blur by.
+fn module_of(file: &str) -> &str {
+    match file {
+        "blur.rs" => "column_blur",
+        _ => file.trim_end_matches(".rs"),
+    }
+}
+
+/// What the passes of a build blur by: given levels handed over, or the published blur.
+const GIVEN: &str = "crate::shims::blur";
+const OWN: &str = "self::column_blur as blur";
 
 /// One build: modules of published text, and the crate's own that look inside them.
 fn write_build(
     text: &mut String,
     name: &str,
+    blur: &str,
     crate_folder: &Path,
     modules: &[(&str, PathBuf)],
     own: &[&str],
 ) {
     writeln!(
         text,
-        "pub(crate) mod {name} {{\nuse crate::shims::{{GrayImage, blur, octave_dedup}};"
+        "pub(crate) mod {name} {{\nuse crate::shims::{{GrayImage, octave_dedup}};\nuse {blur};"
     )
     .unwrap();
     for (module, path) in modules {

@@ -188,3 +188,16 @@ pub const STREAM: &[Substitution] = &[
         ",
     ),
 ];
+
+pub const BLUR: &[Substitution] = &[
+    // The set's names.
+    At(
+        "35.1+26 8c38895d93da",
+        "use crate::here::{ByRules as _, here};\n",
+    ),
+    Word("SIGMAS", "here().sigmas", 5),
+    // Document 02's largest radius.
+    At("41.38+2 1ee1535c42f7", "16"),
+    // Document 01's named differences, where floats are compared.
+    Call(".max(", ".max_here(", 2),
+];

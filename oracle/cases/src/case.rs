@@ -14,6 +14,15 @@ pub struct Scene {
     pub levels: Levels,
 }
 
+/// A raw map by columns, and the octave that its levels are of.
+#[derive(Clone, Debug)]
+pub struct Raw {
+    pub rows: usize,
+    pub cols: usize,
+    pub octave: usize,
+    pub pixels: Vec<f32>,
+}
+
 /// One input to one function.
 #[derive(Clone, Debug)]
 pub enum Case {
@@ -51,6 +60,15 @@ pub enum Case {
     },
     /// The set reader.
     Reader { bytes: Vec<u8> },
+    /// The levels of a raw map under a set's record into four buffers of `rooms` floats, those of the k-th filled with `fill` + k first.
+    Levels {
+        record: Vec<u8>,
+        raw: Raw,
+        rooms: [usize; 4],
+        fill: f32,
+    },
+    /// The levels of a raw map, then detection on them, then the join of what it listed; the scene has no levels yet.
+    FromRaw { scene: Scene, pixels: Vec<f32> },
     /// An inner function on words.
     Inner {
         function: &'static str,

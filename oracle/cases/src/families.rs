@@ -2,6 +2,7 @@
 
 use crate::case::{Case, Scene};
 use crate::homes;
+use crate::levels;
 use crate::limits;
 use crate::maps;
 use crate::mirrored;
@@ -14,7 +15,7 @@ use crate::turning;
 use crate::words::{self, FUNCTIONS};
 
 /// The families of cases. `inner` counts through the inner functions.
-pub const FAMILIES: [&str; 22] = [
+pub const FAMILIES: [&str; 26] = [
     "list",
     "detect",
     "join",
@@ -37,6 +38,10 @@ pub const FAMILIES: [&str; 22] = [
     "blanks",
     "limits",
     "homes",
+    "levels",
+    "kernels",
+    "blurs",
+    "raw",
 ];
 
 /// The case of a family with the given seed and number.
@@ -62,6 +67,10 @@ pub fn expand(family: &str, seed: u64, number: usize) -> Case {
         "blanks" => limits::blank(random, number),
         "limits" => limits::odd(random, number),
         "homes" => homes::join(random, number),
+        "levels" => levels::made(random, number),
+        "kernels" => levels::kernel(random, number),
+        "blurs" => levels::blur(random, number),
+        "raw" => levels::chain(random, number),
         "overshoot" => overshoot::correction(random),
         "mirrored" => mirrored::correction(random),
         "cancelling" => rounding::cancelling(random),

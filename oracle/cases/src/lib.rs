@@ -4,6 +4,7 @@ pub mod case;
 pub mod edges;
 pub mod families;
 pub mod homes;
+pub mod levels;
 mod limits;
 pub mod maps;
 mod mirrored;
@@ -15,7 +16,7 @@ pub mod sets;
 mod turning;
 pub mod words;
 
-pub use case::{Case, Scene};
+pub use case::{Case, Raw, Scene};
 pub use edges::{Knob, turn};
 pub use families::{FAMILIES, expand};
 pub use sets::Set;

@@ -92,7 +92,8 @@ fn blobs(random: &mut Random, set: &Set, rows: usize, cols: usize) -> Levels {
     levels
 }
 
-fn add_bump(
+/// Adds a round bump of a height, wide as a variance.
+pub(crate) fn add_bump(
     level: &mut [f32],
     rows: usize,
     cols: usize,

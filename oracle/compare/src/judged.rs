@@ -1,8 +1,9 @@
 //! The judge as a subject, so that one driver serves every comparison.
 
+use cases::levels::{FILL, TAPS, WIDEST};
 use cases::records::SPOT;
-use cases::{Scene, Set};
-use judge::{Answer, Logs, Map, Pass, Rules, inner, steps};
+use cases::{Raw, Scene, Set};
+use judge::{Answer, Kernel, Logs, Map, Pass, RawMap, Rules, inner, levels, steps};
 use subject::{Reply, Subject};
 
 /// The judge under given rules, by its reference or its streaming pass.
@@ -52,6 +53,16 @@ pub fn map_of(scene: &Scene) -> Map<'_> {
         cols: scene.cols,
         octave: scene.octave,
         levels: [0, 1, 2, 3].map(|level| scene.levels[level].as_slice()),
+    }
+}
+
+/// The judge's form of a raw map.
+pub fn raw_of(raw: &Raw) -> RawMap<'_> {
+    RawMap {
+        rows: raw.rows,
+        cols: raw.cols,
+        octave: raw.octave,
+        pixels: &raw.pixels,
     }
 }
 
@@ -196,9 +207,19 @@ impl Subject for Judge {
         Some(judge::Set::from_record(bytes).map(|_| ()).ok_or(4))
     }
 
+    fn levels(
+        &mut self,
+        record: &[u8],
+        raw: &Raw,
+        out: &mut [Vec<f32>; 4],
+    ) -> Option<Result<(), u32>> {
+        Some(judge::levels(record, raw_of(raw), out))
+    }
+
     fn inner(&mut self, function: &str, set: &Set, words: &[f32]) -> Option<Vec<f32>> {
         let set = set_of(set);
         helper(function, words)
+            .or_else(|| level(self.logs, function, words))
             .or_else(|| scale_fit(self.rules, function, &set, words))
             .or_else(|| profile(self.rules, function, &set, words))
     }
@@ -229,6 +250,49 @@ fn helper(function: &str, words: &[f32]) -> Option<Vec<f32>> {
         "clamp" => words[0],
         _ => return None,
     }])
+}
+
+/// The kernels, and two levels by kernels given.
+fn level(logs: Logs, function: &str, words: &[f32]) -> Option<Vec<f32>> {
+    let listed = |kernel: Kernel| [&[kernel.radius as f32], &kernel.taps[..]].concat();
+    Some(match function {
+        "gaussian" => listed(levels::gaussian(logs, words[0])),
+        "kernel" => listed(levels::kernel(logs, words[0] as usize, words[1], words[2])),
+        "blur" => blur(words),
+        _ => return None,
+    })
+}
+
+/// Two radii each with 17 taps, rows, cols, two rooms and the raw pixels; gives whether both levels were made, and both buffers.
+fn blur(words: &[f32]) -> Vec<f32> {
+    let (kernels, rest) = words.split_at(2 * (1 + TAPS));
+    let kernels = kernels.chunks_exact(1 + TAPS).map(|words| Kernel {
+        radius: words[0] as usize,
+        taps: words[1..].to_vec(),
+    });
+    let (numbers, pixels) = rest.split_at(4);
+    let map = RawMap {
+        rows: numbers[0] as usize,
+        cols: numbers[1] as usize,
+        octave: 0,
+        pixels,
+    };
+    let given: Vec<(Kernel, usize)> = kernels
+        .zip(numbers[2..].iter().map(|&room| room as usize))
+        .collect();
+    let mut made = given
+        .iter()
+        .all(|(kernel, room)| kernel.radius <= WIDEST && *room >= pixels.len());
+    made &= map.rows <= 4096 && map.cols <= 4096 && pixels.len() == map.rows * map.cols;
+    let mut answer = vec![bit(made)];
+    for (kernel, room) in &given {
+        let mut out = vec![FILL; *room];
+        if made {
+            out[..pixels.len()].copy_from_slice(&levels::blur(kernel, map));
+        }
+        answer.extend(out);
+    }
+    answer
 }
 
 fn scale_fit(rules: Rules, function: &str, set: &judge::Set, words: &[f32]) -> Option<Vec<f32>> {

@@ -79,7 +79,10 @@ fn own(seed: u64, times: usize) -> bool {
     sound &= own::envelopes(seed, times);
     sound &= own::builds(seed, times);
     sound &= own::passes(seed, times);
+    sound &= own::blurs(seed, times);
+    sound &= own::raw(seed, times);
     own::logarithms(seed, times);
+    own::taps(seed, times);
     sound
 }
 
@@ -109,6 +112,8 @@ fn tally(seed: u64, times: usize) -> bool {
     let fault = (!holes.is_empty()).then(|| format!("no case is rejected by: {holes:?}"));
     let admitted = quiet.contains(&"extra admission test");
     let fired = (!admitted).then(|| "it fires".to_string());
+    let missed = tally.radii_not_reached();
+    let missed = (!missed.is_empty()).then(|| format!("no level has the radius {missed:?}"));
     own::told(
         "every-gate-rejects",
         fault,
@@ -117,7 +122,7 @@ fn tally(seed: u64, times: usize) -> bool {
         "extra-admission-test-never-fires",
         fired,
         "over all these cases",
-    )
+    ) & own::told("every-radius-is-reached", missed, "1 to 16")
 }
 
 /// A subject against the judge.

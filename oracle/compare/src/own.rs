@@ -1,12 +1,12 @@
 //! The comparisons that need no subject: the judge's passes, builds and rules among themselves.
 
-use crate::judged::{Judge, from_judge, map_of, read_back, set_of};
+use crate::judged::{Judge, from_judge, map_of, raw_of, read_back, set_of};
 use crate::plan;
 use cases::random::Random;
 use cases::records::SPOT;
 use cases::{Case, Scene, edges, sets};
-use judge::{Logs, Pass, Rules, inner};
-use subject::{Reply, Subject, difference};
+use judge::{Logs, Pass, Rules, inner, levels};
+use subject::{Reply, Subject, difference, made_of};
 
 /// Prints one check's line and gives whether it passed.
 pub fn told(name: &str, fault: Option<String>, seen: &str) -> bool {
@@ -170,6 +170,117 @@ pub fn octaves() -> bool {
         fault,
         "every shortest side to 4096",
     )
+}
+
+/// The levels of a raw map one by one, by twos and by threes, as the published blur chooses its way, against all four at once.
+pub fn blurs(seed: u64, times: usize) -> bool {
+    let (mut maps, mut fault) = (0, None);
+    let plain = |level: &[f32]| -> Vec<u32> {
+        let bits = |&pixel: &f32| if pixel.is_nan() { 0 } else { pixel.to_bits() };
+        level.iter().map(bits).collect()
+    };
+    plan::each("levels", seed, times, |one| {
+        let Case::Levels { record, raw, .. } = &one.case else {
+            return;
+        };
+        let Some(set) = judge::Set::from_record(record) else {
+            return;
+        };
+        let map = raw_of(raw);
+        let mut all = core::array::from_fn(|_| vec![0.0; raw.pixels.len()]);
+        if judge::levels(record, map, &mut all).is_err() {
+            return;
+        }
+        maps += 1;
+        for choice in 1..15 {
+            let chosen = core::array::from_fn(|level| choice >> level & 1 == 1);
+            let mut some = core::array::from_fn(|_| vec![0.0; raw.pixels.len()]);
+            levels::make(Logs::Steps, &set, map, chosen, &mut some);
+            let same = (0..4).all(|k| !chosen[k] || plain(&some[k]) == plain(&all[k]));
+            if !same {
+                fault.get_or_insert_with(|| format!("levels {seed} {}: {chosen:?}", one.number));
+            }
+        }
+    });
+    told(
+        "chosen-levels-equal-all-four",
+        fault,
+        &format!("{maps} raw maps"),
+    )
+}
+
+/// Detection on levels made first against the whole published text on the raw map, by both passes.
+pub fn raw(seed: u64, times: usize) -> bool {
+    let (mut maps, mut spots, mut fault) = (0, 0, None);
+    plan::each("raw", seed, times, |one| {
+        let Case::FromRaw { scene, pixels } = &one.case else {
+            return;
+        };
+        let Some(Ok(made)) = made_of(&mut Judge::sound(), scene, pixels) else {
+            return;
+        };
+        let (sound, list) = whole(Judge::sound(), &made);
+        let Some(Reply::Done(count)) = sound else {
+            return;
+        };
+        maps += 1;
+        spots += count;
+        let mut map = map_of(scene);
+        map.levels[0] = pixels;
+        for pass in [Pass::Reference, Pass::Streaming] {
+            let mut out = vec![0; list.len()];
+            let answer =
+                judge::detect_raw(Rules::Document, pass, &set_of(&scene.set), map, &mut out);
+            if answer != judge::Answer::Done(count) || out != list {
+                let words = || format!("raw {seed} {}: {}", one.number, difference(&list, &out));
+                fault.get_or_insert_with(words);
+            }
+        }
+    });
+    told(
+        "raw-maps-by-the-whole-text",
+        fault,
+        &format!("{maps} raw maps, {spots} spots"),
+    )
+}
+
+/// How many taps differ between the step lists and Rust's own exp: of set T and the half octaves in octaves 0 and 1, and of random sigmas.
+pub fn taps(seed: u64, times: usize) {
+    let mut half_octaves = judge::Set::t();
+    let root = core::f32::consts::SQRT_2;
+    half_octaves.sigmas = [root, 2.0, 2.0 * root, 4.0];
+    let random = &mut Random::new(seed, 310, 0);
+    let sigmas: Vec<f32> = (0..1000 * times)
+        .map(|_| random.between(0.1, 5.5))
+        .collect();
+    let of_set = |set: &judge::Set, octave| {
+        [Logs::Steps, Logs::Rust].map(|logs| levels::kernels(logs, set, octave).to_vec())
+    };
+    let by_sigma = [Logs::Steps, Logs::Rust].map(|logs| {
+        let kernel = |&sigma: &f32| levels::gaussian(logs, sigma);
+        sigmas.iter().map(kernel).collect()
+    });
+    let all = [
+        ("set T, octave 0", of_set(&judge::Set::t(), 0)),
+        ("set T, octave 1", of_set(&judge::Set::t(), 1)),
+        ("half octaves, octave 0", of_set(&half_octaves, 0)),
+        ("half octaves, octave 1", of_set(&half_octaves, 1)),
+        ("sigmas from 0.1 to 5.5", by_sigma),
+    ];
+    for (name, [steps, rust]) in all {
+        let (mut count, mut differing, mut farthest) = (0, 0, 0);
+        for (one, other) in steps.iter().zip(&rust) {
+            for (tap, by_rust) in one.taps.iter().zip(&other.taps).take(one.radius + 1) {
+                count += 1;
+                differing += usize::from(tap != by_rust);
+                farthest = farthest.max(tap.to_bits().abs_diff(by_rust.to_bits()));
+            }
+        }
+        println!(
+            "taps by the step list and by Rust's exp, {name}: {} kernels, {count} taps, {differing} differ, by at most {farthest} floats",
+            steps.len()
+        );
+    }
 }
 
 /// How many sizes differ between the step lists and Rust's own log2 and exp.

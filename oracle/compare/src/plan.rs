@@ -3,12 +3,13 @@
 use crate::judged::Judge;
 use crate::search;
 use cases::homes::{KINDS, WALK};
+use cases::levels::PAIRS;
 use cases::{Case, Knob, expand, turn};
 use subject::answer;
 use subject::stored::{Entry, Kept, Section};
 
 /// Cases of a family in a bounded run and in the stored list.
-pub const COUNTS: [(&str, usize); 21] = [
+pub const COUNTS: [(&str, usize); 25] = [
     ("list", 3000),
     ("detect", 1800),
     ("join", 1200),
@@ -30,6 +31,10 @@ pub const COUNTS: [(&str, usize); 21] = [
     ("blanks", 2 * 6 * 6 * 16),
     ("limits", 1200),
     ("homes", WALK + 4 * KINDS * KINDS),
+    ("levels", 1200),
+    ("kernels", 1600),
+    ("blurs", 4 * PAIRS),
+    ("raw", 300),
 ];
 
 /// Scenes and corrections that are searched for edges, with the tries at each.

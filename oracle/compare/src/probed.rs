@@ -2,6 +2,7 @@
 
 use crate::judged::Judge;
 use crate::own::told;
+use cases::levels;
 use cases::words::FUNCTIONS;
 use cases::{Case, expand};
 use std::collections::BTreeMap;
@@ -18,13 +19,20 @@ struct Seen {
     first: Option<String>,
 }
 
-/// The families of inner functions beside `inner`.
-const FAMILIES: [&str; 4] = ["turning", "cancelling", "inflected", "floats"];
+/// The families of inner functions beside `inner`, each with the part of the count that it takes: a kernel and a blur are many floats' work.
+const FAMILIES: [(&str, usize); 6] = [
+    ("turning", 1),
+    ("cancelling", 1),
+    ("inflected", 1),
+    ("floats", 1),
+    ("kernels", 2),
+    ("blurs", 16),
+];
 
 /// What was seen, by function.
 type All = BTreeMap<&'static str, Seen>;
 
-/// So many cases of the family `inner` for each function, and as many over all of each of `FAMILIES`, shared among the processors.
+/// So many cases of the family `inner` for each function, and their part over all of each of `FAMILIES`, shared among the processors.
 pub fn run(seed: u64, count: usize) -> bool {
     let workers = std::thread::available_parallelism().map_or(1, usize::from);
     let mut all = All::new();
@@ -37,7 +45,7 @@ pub fn run(seed: u64, count: usize) -> bool {
         }
     });
     let mut sound = true;
-    for function in FUNCTIONS {
+    for (function, count) in due(count) {
         let seen = all.remove(function).unwrap_or_default();
         let seconds = seen.time.as_secs_f64();
         let line = format!(
@@ -54,6 +62,18 @@ pub fn run(seed: u64, count: usize) -> bool {
     sound
 }
 
+/// Each function with the cases that must be seen of it.
+fn due(count: usize) -> Vec<(&'static str, usize)> {
+    let [gaussian, kernel, blur] = levels::FUNCTIONS;
+    let inner = FUNCTIONS.iter().map(|&function| (function, count));
+    let made = [
+        (gaussian, count / 4),
+        (kernel, count / 4),
+        (blur, count / 16),
+    ];
+    inner.chain(made).collect()
+}
+
 /// One worker's share of the cases.
 fn part(seed: u64, count: usize, worker: usize, workers: usize) -> All {
     let mut all = All::new();
@@ -61,8 +81,10 @@ fn part(seed: u64, count: usize, worker: usize, workers: usize) -> All {
         one("inner", seed, number, &mut all);
     }
     for number in (worker..count).step_by(workers) {
-        for family in FAMILIES {
-            one(family, seed, number, &mut all);
+        for (family, part) in FAMILIES {
+            if number < count / part {
+                one(family, seed, number, &mut all);
+            }
         }
     }
     all

@@ -1,8 +1,12 @@
-//! What a run of cases has reached: maps, spots, pixels with both polarities, spots at sigma 0, each gate's rejections.
+//! What a run of cases has reached: maps, spots, pixels with both polarities, spots at sigma 0, each gate's rejections, each radius of a level.
 
+use crate::judged::Judge;
+use cases::levels::TAPS;
 use cases::records::SPOT;
 use cases::{Case, Scene};
+use judge::{Logs, levels};
 use std::collections::BTreeMap;
+use subject::made_of;
 
 /// Counts over a run.
 #[derive(Default)]
@@ -14,9 +18,17 @@ pub struct Tally {
     spots: usize,
     both: usize,
     at_sigma_zero: usize,
+    radii: [usize; TAPS],
 }
 
 impl Tally {
+    /// The radii, 1 to 16, that no level was made with.
+    pub fn radii_not_reached(&self) -> Vec<usize> {
+        (1..TAPS)
+            .filter(|&radius| self.radii[radius] == 0)
+            .collect()
+    }
+
     /// Counts a case and the judge's answer to it.
     pub fn add(&mut self, family: &str, case: &Case, answer: &[u8]) {
         *self.cases.entry(family.to_string()).or_default() += 1;
@@ -36,7 +48,20 @@ impl Tally {
         match case {
             Case::List { .. } => self.add_list(answer),
             Case::Detect { scene, .. } | Case::Sized { scene } => self.add_scene(scene),
+            Case::FromRaw { scene, pixels } => {
+                if let Some(Ok(scene)) = made_of(&mut Judge::sound(), scene, pixels) {
+                    self.add_scene(&scene);
+                }
+            }
+            Case::Levels { record, raw, .. } => self.add_radii(record, raw.octave),
             _ => {}
+        }
+    }
+
+    fn add_radii(&mut self, record: &[u8], octave: usize) {
+        let set = judge::Set::from_record(record).unwrap_or_else(judge::Set::t);
+        for kernel in levels::kernels(Logs::Steps, &set, octave) {
+            self.radii[kernel.radius] += 1;
         }
     }
 
@@ -58,8 +83,7 @@ impl Tally {
 
     fn add_scene(&mut self, scene: &Scene) {
         let mut out = vec![0u8; 2 * SPOT * scene.rows * scene.cols];
-        let mut judge = crate::judged::Judge::sound();
-        let reply = subject::Subject::detect(&mut judge, scene, &mut out);
+        let reply = subject::Subject::detect(&mut Judge::sound(), scene, &mut out);
         if let Some(subject::Reply::Done(count)) = reply {
             let word = |record: &[u8], from: usize| {
                 u32::from_be_bytes(core::array::from_fn(|place| record[from + place]))
@@ -97,6 +121,7 @@ impl Tally {
         println!("spots: {}", self.spots);
         println!("pixels with both: {}", self.both);
         println!("spots at sigma 0: {}", self.at_sigma_zero);
+        println!("levels by their radius, 0 to 16: {:?}", self.radii);
         for (gate, count) in judge::counts() {
             println!("rejected, {gate}: {count}");
         }

@@ -13,13 +13,13 @@ pub fn set(index: usize) -> Set {
 }
 
 macro_rules! of_build {
-    ($index:expr, $function:ident($($argument:expr),*)) => {
+    ($index:expr, $module:ident, $function:ident($($argument:expr),*)) => {
         match $index {
-            0 => builds::t::offered::$function($($argument),*),
-            1 => builds::half_octaves::offered::$function($($argument),*),
-            2 => builds::weighted::offered::$function($($argument),*),
-            3 => builds::degenerate::offered::$function($($argument),*),
-            4 => builds::repeated_order::offered::$function($($argument),*),
+            0 => builds::t::$module::$function($($argument),*),
+            1 => builds::half_octaves::$module::$function($($argument),*),
+            2 => builds::weighted::$module::$function($($argument),*),
+            3 => builds::degenerate::$module::$function($($argument),*),
+            4 => builds::repeated_order::$module::$function($($argument),*),
             _ => panic!("there is no such fixed set"),
         }
     };
@@ -29,13 +29,13 @@ macro_rules! of_build {
 pub fn detect(index: usize, pass: Pass, map: Map, out: &mut [u8]) -> Answer {
     match entries::detection_refusal(set(index).good(), map) {
         Some(number) => Answer::Refused { number, index: 0 },
-        None => write_spots(&of_build!(index, detect(pass, map)).1, out),
+        None => write_spots(&of_build!(index, offered, detect(pass, map)).1, out),
     }
 }
 
 /// The seconds of a pass alone, and how many spots it found.
 pub fn time(index: usize, pass: Pass, map: Map) -> (f64, usize) {
-    let (seconds, spots) = of_build!(index, detect(pass, map));
+    let (seconds, spots) = of_build!(index, offered, detect(pass, map));
     (seconds, spots.len())
 }
 
@@ -47,11 +47,26 @@ pub fn correct(
     is_max: bool,
 ) -> Result<f32, u32> {
     let before = math_compat::choose(logs);
-    let size = of_build!(index, correct(&samples, sigma, is_max));
+    let size = of_build!(index, offered, correct(&samples, sigma, is_max));
     math_compat::choose(before);
     size.ok_or(7)
 }
 
 pub fn octave_count(rows: usize, cols: usize) -> usize {
-    of_build!(0, octave_count(rows, cols))
+    of_build!(0, offered, octave_count(rows, cols))
+}
+
+/// The four levels of a raw map of rows by cols by the blur as it stands, its largest radius 14.
+pub fn levels(
+    logs: Logs,
+    index: usize,
+    base: (usize, usize, &[f32]),
+    octave: usize,
+) -> [Vec<f32>; 4] {
+    let (rows, cols, _) = base;
+    let mut out = core::array::from_fn(|_| vec![0.0; rows * cols]);
+    let before = math_compat::choose(logs);
+    of_build!(index, blurred, levels(base, octave, [true; 4], &mut out));
+    math_compat::choose(before);
+    out
 }

@@ -1,6 +1,6 @@
-//! The text as published and the text with a run-time set give the same bytes, and so do its two passes.
+//! The text as published and the text with a run-time set give the same bytes, and so do its two passes; no fixed set's radius is above 14.
 
-use judge::{Answer, Logs, Map, Pass, Rules, Thresholds, fixed};
+use judge::{Answer, Logs, Map, Pass, RawMap, Rules, Thresholds, fixed};
 
 /// Splitmix: a seeded stream of words.
 struct Random(u64);
@@ -192,6 +192,38 @@ fn both_builds_correct_to_the_same_bits() {
             "{}: {sizes} sizes in 80000 corrections",
             fixed::NAMES[index]
         );
+    }
+}
+
+#[test]
+fn both_builds_make_the_same_levels() {
+    for index in 0..fixed::NAMES.len() {
+        let set = fixed::set(index);
+        let mut random = Random(555 + index as u64);
+        for number in 0..400 {
+            let (rows, cols, octave) = (random.below(40), random.below(40), random.below(6));
+            let [pixels, ..] = levels(&mut random, set.sigmas, rows, cols);
+            for logs in [Logs::Steps, Logs::Rust] {
+                let as_published = fixed::levels(logs, index, (rows, cols, &pixels), octave);
+                let map = RawMap {
+                    rows,
+                    cols,
+                    octave,
+                    pixels: &pixels,
+                };
+                let mut run = as_published.each_ref().map(|level| vec![7.0; level.len()]);
+                judge::levels::make(logs, &set, map, [true; 4], &mut run);
+                let bits = |made: &[Vec<f32>; 4]| {
+                    let plain = |pixel: &f32| (!pixel.is_nan()).then_some(pixel.to_bits());
+                    made.iter().flatten().map(plain).collect::<Vec<_>>()
+                };
+                assert!(
+                    bits(&as_published) == bits(&run),
+                    "{} map {number}, {logs:?}",
+                    fixed::NAMES[index]
+                );
+            }
+        }
     }
 }
 

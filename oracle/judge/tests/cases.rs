@@ -1,6 +1,6 @@
 //! Numbers of documents 01 and 02, from the judge.
 
-use judge::{Answer, Logs, Map, Pass, Rules, Set, Thresholds, inner};
+use judge::{Answer, Logs, Map, Pass, RawMap, Rules, Set, Thresholds, inner, levels};
 
 const RULES: [Rules; 2] = [Rules::Published, Rules::Document];
 
@@ -348,4 +348,81 @@ fn a_set_reads_back_from_its_record() {
         assert_eq!(back.to_record(), record);
         assert!(Set::from_record(&record[..527]).is_none());
     }
+}
+
+#[test]
+fn a_tap_of_set_t_by_the_step_list_and_by_rusts_exp() {
+    let tap = |logs| levels::kernels(logs, &Set::t(), 0)[1].taps[1].to_bits();
+    assert_eq!(
+        (tap(Logs::Steps), tap(Logs::Rust)),
+        (0x3e38_c060, 0x3e38_c061)
+    );
+}
+
+#[test]
+fn radii_are_cut_at_16() {
+    let radius = |sigma| levels::gaussian(Logs::Steps, sigma).radius;
+    for k in 1..=16usize {
+        assert_eq!(radius(k as f32 / 3.0 - 0.01), k);
+    }
+    assert_eq!((radius(f32::EPSILON.next_down()), radius(-1.0)), (0, 0));
+    assert_eq!((radius(f32::EPSILON), radius(f32::NAN)), (1, 0));
+    let flat = levels::gaussian(Logs::Steps, f32::INFINITY);
+    assert_eq!((flat.radius, flat.taps), (16, vec![1.0 / 33.0; 17]));
+    let mut set = Set::t();
+    set.sigmas = [1.0, 2.0, 2e19, 3e19];
+    let radii = levels::kernels(Logs::Steps, &set, 0).map(|kernel| kernel.radius);
+    assert_eq!(radii, [3, 6, 16, 16]);
+}
+
+/// The number that levels answer, and what the four buffers hold then; before, each float of them is 9.
+fn levelled(record: &[u8], map: RawMap, rooms: [usize; 4]) -> (u32, Vec<f32>) {
+    let mut out = rooms.map(|room| vec![9.0; room]);
+    let number = judge::levels(record, map, &mut out)
+        .err()
+        .unwrap_or_default();
+    (number, out.iter().flatten().copied().collect())
+}
+
+#[test]
+fn levels_refuse_in_their_order_and_keep_what_is_past_them() {
+    let good = Set::t().to_record();
+    let mut spare = good;
+    spare[527] = 1;
+    let pixels = [1.0; 6];
+    let map = |rows, octave, length: usize| RawMap {
+        rows,
+        cols: 2,
+        octave,
+        pixels: &pixels[..length],
+    };
+    let short = [6, 6, 6, 5];
+    for (record, map, expected) in [
+        (&good[..], map(3, 5, 6), 6),
+        (&spare[..], map(3, 5, 6), 4),
+        (&good[..527], map(3, 5, 6), 4),
+        (&spare[..], map(3, 6, 6), 3),
+        (&spare[..], map(3, 6, 5), 2),
+        (&spare[..], map(4097, 6, 5), 1),
+    ] {
+        let kept = (expected, vec![9.0; 23]);
+        assert_eq!(levelled(record, map, short), kept);
+    }
+    let (number, left) = levelled(&good, map(3, 0, 6), [6, 7, 6, 8]);
+    assert_eq!((number, left[12], &left[25..]), (0, 9.0, &[9.0, 9.0][..]));
+    let near_one = |pixel: &f32| (pixel - 1.0).abs() < 1e-6;
+    assert!(left[..12].iter().all(near_one) && left[13..25].iter().all(near_one));
+}
+
+#[test]
+fn a_sum_starts_at_the_centre() {
+    let map = RawMap {
+        rows: 1,
+        cols: 1,
+        octave: 0,
+        pixels: &[-0.0],
+    };
+    let (number, left) = levelled(&Set::t().to_record(), map, [1; 4]);
+    let bits: Vec<u32> = left.iter().map(|pixel| pixel.to_bits()).collect();
+    assert_eq!((number, bits), (0, vec![0x8000_0000; 4]));
 }

@@ -3,7 +3,7 @@
 use places::{Place, published_name};
 use std::process::ExitCode;
 
-const USE: &str = "use: oracle/place FILE LINE TOKEN    FILE is scale_fit.rs, reference.rs or stream.rs; \\n in TOKEN is a line's end";
+const USE: &str = "use: oracle/place FILE LINE TOKEN    FILE is scale_fit.rs, reference.rs, stream.rs or blur.rs; \\n in TOKEN is a line's end";
 
 /// Every place of a token that begins on a line.
 fn places(folder: &str, file: &str, line: &str, token: &str) -> Result<Vec<Place>, String> {

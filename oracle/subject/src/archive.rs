@@ -3,7 +3,7 @@
 
 use crate::guarded::{Room, Side};
 use crate::{Reply, Subject};
-use cases::{Scene, Set};
+use cases::{Raw, Scene, Set};
 use core::fmt::Debug;
 use uramsheg::{Map, Refusal, Thresholds};
 
@@ -13,6 +13,7 @@ pub struct Archive {
     set: Room,
     levels: [Room; 4],
     list: Room,
+    raw: Room,
     out: Room,
 }
 
@@ -41,6 +42,16 @@ fn both_sides<T: Copy, R: PartialEq + Debug>(
         "what is written depends on where the buffers stand"
     );
     answer
+}
+
+/// Four buffers that stand one after another.
+fn parts(all: &[f32], rooms: [usize; 4]) -> [&[f32]; 4] {
+    let mut rest = all;
+    rooms.map(|room| {
+        let (part, others) = rest.split_at(room);
+        rest = others;
+        part
+    })
 }
 
 /// The bytes of numbers.
@@ -144,5 +155,34 @@ impl Subject for Archive {
             let set = self.set.lend(side, bytes);
             uramsheg::check_set(set).map_err(Refusal::number)
         }))
+    }
+
+    fn levels(
+        &mut self,
+        record: &[u8],
+        raw: &Raw,
+        out: &mut [Vec<f32>; 4],
+    ) -> Option<Result<(), u32>> {
+        let rooms = out.each_ref().map(Vec::len);
+        let mut all = out.concat();
+        let answer = both_sides(&mut all, |side, left| {
+            let set = self.set.lend(side, record);
+            let pixels = self.raw.lend(side, &raw.pixels);
+            let lent = parts(left, rooms);
+            let mut lent = lent.iter();
+            let [l0, l1, l2, l3] = self.levels.each_mut().map(|room| {
+                let level = lent.next().map_or(&[][..], |level| level);
+                room.lend(side, level)
+            });
+            let (rows, cols, octave) = (raw.rows, raw.cols, raw.octave);
+            let answer = uramsheg::levels(set, rows, cols, octave, pixels, [l0, l1, l2, l3]);
+            let written = [&*l0, &*l1, &*l2, &*l3].concat();
+            left.copy_from_slice(&written);
+            answer.map_err(Refusal::number)
+        });
+        for (level, made) in out.iter_mut().zip(parts(&all, rooms)) {
+            level.copy_from_slice(made);
+        }
+        Some(answer)
     }
 }

@@ -1,7 +1,7 @@
 //! What is under test, behind one trait, and its answers as plain bytes.
 
 use cases::records::{SIZED, SPOT};
-use cases::{Case, Scene, Set};
+use cases::{Case, Raw, Scene, Set};
 
 #[cfg(feature = "archive")]
 pub mod archive;
@@ -79,6 +79,16 @@ pub trait Subject {
         None
     }
 
+    /// The four levels of a raw map into lent buffers, under a set's record: done, or a refusal number.
+    fn levels(
+        &mut self,
+        _record: &[u8],
+        _raw: &Raw,
+        _out: &mut [Vec<f32>; 4],
+    ) -> Option<Result<(), u32>> {
+        None
+    }
+
     /// An inner function on words: a bool is 1.0 or 0.0, an absent number is no word.
     fn inner(&mut self, _function: &str, _set: &Set, _words: &[f32]) -> Option<Vec<f32>> {
         None
@@ -106,6 +116,8 @@ pub fn answer(subject: &mut dyn Subject, case: &Case) -> Option<Vec<u8>> {
             Ok(()) => vec![0],
             Err(number) => vec![number as u8],
         }),
+        Case::Levels { .. } => levelled(subject, case),
+        Case::FromRaw { scene, pixels } => from_raw(subject, scene, pixels),
         Case::Inner {
             function,
             set,
@@ -168,6 +180,51 @@ fn halved(subject: &mut dyn Subject, case: &Case) -> Option<Vec<u8>> {
     };
     bytes.extend(word_bytes(&out, false));
     Some(bytes)
+}
+
+fn levelled(subject: &mut dyn Subject, case: &Case) -> Option<Vec<u8>> {
+    let Case::Levels {
+        record,
+        raw,
+        rooms,
+        fill,
+    } = case
+    else {
+        return None;
+    };
+    let mut out = core::array::from_fn(|level| vec![*fill + level as f32; rooms[level]]);
+    let mut bytes = match subject.levels(record, raw, &mut out)? {
+        Ok(()) => b"done:".to_vec(),
+        Err(number) => format!("refused {number}:").into_bytes(),
+    };
+    bytes.extend(out.iter().flat_map(|level| word_bytes(level, false)));
+    Some(bytes)
+}
+
+/// Levels made of a raw map, then detection on them and the join.
+fn from_raw(subject: &mut dyn Subject, scene: &Scene, pixels: &[f32]) -> Option<Vec<u8>> {
+    match made_of(subject, scene, pixels)? {
+        Ok(scene) => sized(subject, &scene),
+        Err(number) => Some(format!("refused {number}:").into_bytes()),
+    }
+}
+
+/// The scene with its levels made of raw pixels, or a refusal number.
+pub fn made_of(
+    subject: &mut dyn Subject,
+    scene: &Scene,
+    pixels: &[f32],
+) -> Option<Result<Scene, u32>> {
+    let raw = Raw {
+        rows: scene.rows,
+        cols: scene.cols,
+        octave: scene.octave,
+        pixels: pixels.to_vec(),
+    };
+    let mut scene = scene.clone();
+    scene.levels = core::array::from_fn(|_| vec![0.0; pixels.len()]);
+    let made = subject.levels(&scene.set.record(), &raw, &mut scene.levels)?;
+    Some(made.map(|()| scene))
 }
 
 /// Detection into enough room, then the join of its list.

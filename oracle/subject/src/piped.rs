@@ -1,7 +1,7 @@
 //! The detector's archive of another processor: `answerer` linked with it, run as a process that answers call by call over a pipe.
 
 use crate::{Reply, Subject};
-use cases::{Scene, Set};
+use cases::{Raw, Scene, Set};
 use std::io::{BufReader, BufWriter, Read, Write};
 use std::process::{Child, ChildStdin, ChildStdout, Command, Stdio};
 
@@ -91,6 +91,15 @@ impl Piped {
         }
     }
 
+    /// The floats of a buffer that was written.
+    fn written(&mut self, out: &mut [f32]) {
+        let mut bytes = vec![0; 4 * out.len()];
+        self.read(&mut bytes);
+        for (value, pattern) in out.iter_mut().zip(bytes.as_chunks().0) {
+            *value = f32::from_le_bytes(*pattern);
+        }
+    }
+
     /// The answer, or the refusal's number that comes before it.
     fn answer<T>(&mut self, answer: impl FnOnce(&mut Piped) -> T) -> Result<T, u32> {
         let number = self.next() as u32;
@@ -171,11 +180,7 @@ impl Subject for Piped {
         self.floats(out);
         Some(self.answer(|piped| {
             let half = (piped.next(), piped.next());
-            let mut bytes = vec![0; 4 * out.len()];
-            piped.read(&mut bytes);
-            for (value, pattern) in out.iter_mut().zip(bytes.as_chunks().0) {
-                *value = f32::from_le_bytes(*pattern);
-            }
+            piped.written(out);
             half
         }))
     }
@@ -184,5 +189,19 @@ impl Subject for Piped {
         self.send(b"s");
         self.bytes(bytes);
         Some(self.answer(|_| ()))
+    }
+
+    fn levels(
+        &mut self,
+        record: &[u8],
+        raw: &Raw,
+        out: &mut [Vec<f32>; 4],
+    ) -> Option<Result<(), u32>> {
+        self.send(b"l");
+        self.bytes(record);
+        self.numbers(&[raw.rows, raw.cols, raw.octave]);
+        self.floats(&raw.pixels);
+        out.iter().for_each(|level| self.floats(level));
+        Some(self.answer(|piped| out.iter_mut().for_each(|level| piped.written(level))))
     }
 }

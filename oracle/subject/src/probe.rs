@@ -3,6 +3,7 @@
 
 use crate::Subject;
 use cases::Set;
+use cases::levels::{FILL, TAPS};
 pub use uramsheg::float;
 
 /// A slice is passed as its start and its length.
@@ -99,10 +100,28 @@ mod raw {
             curvature: f32,
             bounded: f32,
         ) -> f32;
+        pub safe fn probe_gaussian(sigma: f32, i: usize) -> f32;
+        pub safe fn probe_kernel(octave: usize, third: f32, target: f32, i: usize) -> f32;
+        pub fn probe_blur(
+            radius_a: usize,
+            taps_a: *const f32,
+            taps_a_length: usize,
+            radius_b: usize,
+            taps_b: *const f32,
+            taps_b_length: usize,
+            rows: usize,
+            cols: usize,
+            raw: *const f32,
+            raw_length: usize,
+            out_a: *mut f32,
+            out_a_length: usize,
+            out_b: *mut f32,
+            out_b_length: usize,
+        ) -> bool;
     }
 }
 
-pub use raw::{probe_extreme, probe_horner, probe_owns};
+pub use raw::{probe_extreme, probe_gaussian, probe_horner, probe_kernel, probe_owns};
 
 /// The i-th coefficient of the cubic in log2 of sigma, or of the one in sigma.
 pub fn probe_cubic(set: &[u8], geometry: bool, samples: [f32; 4], i: usize) -> f32 {
@@ -223,6 +242,40 @@ pub fn probe_model(set: &[u8], numbers: [f32; 5]) -> f32 {
     }
 }
 
+/// A kernel given: its radius and its taps.
+#[derive(Clone, Copy)]
+pub struct Given<'a> {
+    pub radius: usize,
+    pub taps: &'a [f32],
+}
+
+/// Two levels of a raw map of rows by cols, by two kernels given: whether they were made.
+pub fn probe_blur(
+    [a, b]: [Given; 2],
+    (rows, cols, raw): (usize, usize, &[f32]),
+    [out_a, out_b]: [&mut [f32]; 2],
+) -> bool {
+    // SAFETY: each pointer goes with its own slice's length, and neither buffer overlaps another.
+    unsafe {
+        raw::probe_blur(
+            a.radius,
+            a.taps.as_ptr(),
+            a.taps.len(),
+            b.radius,
+            b.taps.as_ptr(),
+            b.taps.len(),
+            rows,
+            cols,
+            raw.as_ptr(),
+            raw.len(),
+            out_a.as_mut_ptr(),
+            out_a.len(),
+            out_b.as_mut_ptr(),
+            out_b.len(),
+        )
+    }
+}
+
 /// The two archives as a subject: they offer every inner function.
 pub struct Probe;
 
@@ -244,6 +297,7 @@ impl Subject for Probe {
         helper(function, words)
             .or_else(|| profile(function, set, words))
             .or_else(|| fit(function, set, words))
+            .or_else(|| level(function, words))
     }
 }
 
@@ -316,4 +370,31 @@ fn refine(set: &[u8], words: &[f32]) -> Option<Vec<f32>> {
     let mut left = each(6, |i| probe_refine(set, &words[7..], spot, words[6], i));
     left.push(bit(spot.is_max));
     Some(left)
+}
+
+fn level(function: &str, words: &[f32]) -> Option<Vec<f32>> {
+    let [a, third, target] = first(words);
+    Some(match function {
+        "gaussian" => each(1 + TAPS, |i| probe_gaussian(a, i)),
+        "kernel" => each(1 + TAPS, |i| probe_kernel(a as usize, third, target, i)),
+        "blur" => blur(words),
+        _ => return None,
+    })
+}
+
+/// Two radii each with 17 taps, rows, cols, two rooms and the raw pixels.
+fn blur(words: &[f32]) -> Vec<f32> {
+    let (kernels, rest) = words.split_at(2 * (1 + TAPS));
+    let given = |kernel: usize| {
+        let words = &kernels[kernel * (1 + TAPS)..(kernel + 1) * (1 + TAPS)];
+        Given {
+            radius: words[0] as usize,
+            taps: &words[1..],
+        }
+    };
+    let [rows, cols, room_a, room_b] = first(rest).map(|word: f32| word as usize);
+    let [mut out_a, mut out_b] = [room_a, room_b].map(|room| vec![FILL; room]);
+    let lent = [&mut out_a[..], &mut out_b[..]];
+    let made = probe_blur([given(0), given(1)], (rows, cols, &rest[4..]), lent);
+    [vec![bit(made)], out_a, out_b].concat()
 }
