@@ -1,6 +1,6 @@
-//! Times detection on maps of blobs and noise: ours, the Rust's reference and its streaming pass; then the sizing of the spots found: our join, and the
-//! Rust's correction. One thread, in one run. `bench [SIDE]`.
-use judge::{Logs, Pass, fixed};
+//! Times the four levels of a raw map: ours and the Rust's blur; then detection on maps of blobs and noise: ours, the Rust's reference and its streaming
+//! pass; then the sizing of the spots found: our join, and the Rust's correction. One thread, in one run. `bench [SIDE]`.
+use judge::{Logs, Pass, RawMap, Set, fixed};
 use std::time::Instant;
 use uramsheg::{Map, SPOT_BYTES, SIZED_BYTES, Spot, Thresholds};
 
@@ -41,6 +41,42 @@ fn levels(side: usize, sigmas: [f32; 4]) -> [Vec<f32>; 4] {
         }
         level
     })
+}
+
+/// Sigmas half an octave apart, from the root of 2 on.
+const HALF_OCTAVES: [f32; 4] = [std::f32::consts::SQRT_2, 2.0, 2.0 * std::f32::consts::SQRT_2, 4.0];
+
+/// All four levels of a raw map, ours and by the Rust's blur with 16 as its largest radius, both by our exp, run after run in turn; both must make the same bits.
+fn time_levels(side: usize, pixels: &[f32]) {
+    let mut set = Set::t();
+    set.sigmas = HALF_OCTAVES;
+    let record = set.to_record();
+    let mut ours = [0; 4].map(|_| vec![0.0f32; side * side]);
+    let mut theirs = ours.clone();
+    println!("| raw map | octave | radii | ours, ns a pixel | Rust's blur | ratio |");
+    println!("|---|---|---|---|---|---|");
+    for octave in [0, 1] {
+        let map = RawMap { rows: side, cols: side, octave, pixels };
+        let [mut least, mut their_least] = [f64::INFINITY; 2];
+        for _ in 0..RUNS {
+            let began = Instant::now();
+            let made = uramsheg::levels(&record, side, side, octave, pixels, ours.each_mut().map(Vec::as_mut_slice));
+            least = least.min(began.elapsed().as_secs_f64());
+            made.expect("the benchmark's raw map was refused");
+            let began = Instant::now();
+            judge::levels::make(Logs::Steps, &set, map, [true; 4], &mut theirs);
+            their_least = their_least.min(began.elapsed().as_secs_f64());
+        }
+        let same = ours.iter().flatten().zip(theirs.iter().flatten()).all(|(one, other)| one.to_bits() == other.to_bits());
+        assert!(same, "the levels differ from the Rust's");
+        let radii = judge::levels::kernels(Logs::Steps, &set, octave).map(|kernel| kernel.radius.to_string());
+        let each = |seconds: f64| seconds * 1e9 / (side * side) as f64;
+        println!(
+            "| {side} by {side} | {octave} | {} | {:.1} | {:.1} | {:.2} |",
+            radii.join(" "), each(least), each(their_least), least / their_least
+        );
+    }
+    println!();
 }
 
 fn time_ours(set: &[u8; 528], th: Thresholds, map: Map<'_>, out: &mut [u8]) -> (f64, usize) {
@@ -97,6 +133,7 @@ fn main() {
     let record = set.to_record();
     let owned = levels(side, set.sigmas);
     let levels = [&owned[0][..], &owned[1], &owned[2], &owned[3]];
+    time_levels(side, levels[0]);
     let map = Map { rows: side, cols: side, octave: 0, levels };
     let mut out = vec![0u8; SPOT_BYTES * 400_000];
     let mut theirs = out.clone();

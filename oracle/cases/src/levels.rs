@@ -218,6 +218,26 @@ pub fn made(random: &mut Random, number: usize) -> Case {
     }
 }
 
+/// Levels of a raw map of noise on the longest sides there are, under set T, with one float of room more than there is need of.
+pub fn widest(random: &mut Random) -> Case {
+    let (rows, cols) = (4096, 4096);
+    let pixels = (0..rows * cols)
+        .map(|_| random.between(-1.0, 1.0))
+        .collect();
+    let octave = random.below(6);
+    Case::Levels {
+        record: Set::t().record().to_vec(),
+        raw: Raw {
+            rows,
+            cols,
+            octave,
+            pixels,
+        },
+        rooms: [rows * cols + 1; 4],
+        fill: 7.0,
+    }
+}
+
 /// Sigmas at which a test of `gaussian` turns, and the ends of the format.
 const ENDS: [f32; 20] = [
     0.0,

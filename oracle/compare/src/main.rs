@@ -221,27 +221,41 @@ fn one(words: &[&str]) -> bool {
     true
 }
 
-/// The one map with both sides longest: the streaming pass, and the archive where it is built in, against the reference.
-fn widest(seed: u64) -> bool {
-    let case = expand("widest", seed, 0);
+/// One case with both sides longest: subjects against the judge.
+fn widest_of(seed: u64, number: usize, subjects: &mut [(&str, &mut dyn Subject)]) -> bool {
+    let case = expand("widest", seed, number);
     let sound = answer(&mut Judge::sound(), &case).unwrap_or_default();
     let reply: String = sound
         .iter()
         .take_while(|&&byte| byte != b':')
         .map(|&byte| char::from(byte))
         .collect();
-    let against = |name: &str, subject: &mut dyn Subject| {
+    let mut all_sound = true;
+    for (name, subject) in subjects {
         let begun = Instant::now();
-        let given = answer(subject, &case).unwrap_or_default();
+        let given = answer(*subject, &case).unwrap_or_default();
         let fault = (sound != given).then(|| difference(&sound, &given));
         let seen = format!("{reply}, {:.1} s", begun.elapsed().as_secs_f64());
-        own::told(name, fault, &seen)
-    };
+        all_sound &= own::told(&format!("widest-{name}"), fault, &seen);
+    }
+    all_sound
+}
+
+/// The streaming pass, and the archive where it is built in, against the reference; then the archive's levels of a raw map.
+fn widest(seed: u64) -> bool {
+    let mut streaming = Judge::streaming();
     #[cfg(feature = "archive")]
-    let archive = against("widest-archive", &mut subject::archive::Archive::default());
+    {
+        let mut archive = subject::archive::Archive::default();
+        let spots = widest_of(
+            seed,
+            0,
+            &mut [("streaming", &mut streaming), ("archive", &mut archive)],
+        );
+        widest_of(seed, 1, &mut [("levels", &mut archive)]) & spots
+    }
     #[cfg(not(feature = "archive"))]
-    let archive = true;
-    against("widest-streaming", &mut Judge::streaming()) & archive
+    widest_of(seed, 0, &mut [("streaming", &mut streaming)])
 }
 
 /// Writes the stored list.

@@ -24,6 +24,8 @@ fn past_the_end_is_nan() {
         assert!(probe_extrema(set, FOUR, 1.0, 2.0, 4 + past).is_nan());
         assert!(probe_spatial(set, 1, &[0.0; 9], 5 + past).is_nan());
         assert!(probe_refine(set, &[0.0; 36], SPOT, 10.0, 6 + past).is_nan());
+        assert!(probe_gaussian(1.0, 18 + past).is_nan());
+        assert!(probe_kernel(0, 3.0, 1.0, 18 + past).is_nan());
     }
 }
 
@@ -68,4 +70,34 @@ fn an_absent_statistic_takes_the_set_s_beta() {
     assert_eq!(probe_statistic(record, mixed), None);
     assert_eq!(probe_beta(record, None), set.numbers[6]);
     assert_eq!(probe_blend(record, mixed), set.numbers[6]);
+}
+
+/// What two buffers of six floats, each 9 before, hold after a blur of a map of rows by cols by kernels of this radius and so many taps.
+fn blurred(
+    radius: usize,
+    taps: [usize; 2],
+    sides: (usize, usize),
+    raw: usize,
+) -> (bool, [f32; 12]) {
+    let (held, mut left) = ([0.5; 18], [9.0; 12]);
+    let kernels = taps.map(|count| Given {
+        radius,
+        taps: &held[..count],
+    });
+    let (out_a, out_b) = left.split_at_mut(6);
+    let map = (sides.0, sides.1, &[1.0; 8][..raw]);
+    (probe_blur(kernels, map, [out_a, out_b]), left)
+}
+
+#[test]
+fn a_blur_is_refused_and_writes_nothing() {
+    assert_eq!(blurred(0, [17, 17], (3, 2), 6), (true, [0.25; 12]));
+    let refused = (false, [9.0; 12]);
+    assert_eq!(blurred(0, [16, 17], (3, 2), 6), refused);
+    assert_eq!(blurred(0, [17, 18], (3, 2), 6), refused);
+    assert_eq!(blurred(17, [17, 17], (3, 2), 6), refused);
+    assert_eq!(blurred(0, [17, 17], (3, 2), 7), refused);
+    assert_eq!(blurred(0, [17, 17], (7, 1), 7), refused);
+    assert_eq!(blurred(0, [17, 17], (4097, 0), 0), refused);
+    assert_eq!(blurred(0, [17, 17], (usize::MAX, 2), 6), refused);
 }
