@@ -81,6 +81,7 @@ fn own(seed: u64, times: usize) -> bool {
     sound &= own::passes(seed, times);
     sound &= own::blurs(seed, times);
     sound &= own::raw(seed, times);
+    sound &= own::lost(seed, times);
     own::logarithms(seed, times);
     own::taps(seed, times);
     sound

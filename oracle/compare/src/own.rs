@@ -244,6 +244,77 @@ pub fn raw(seed: u64, times: usize) -> bool {
     )
 }
 
+/// A raw map's list, by levels made first.
+fn list_of(scene: &Scene, pixels: &[f32]) -> Vec<u8> {
+    match made_of(&mut Judge::sound(), scene, pixels) {
+        Some(Ok(made)) => whole(Judge::sound(), &made).1,
+        _ => Vec::new(),
+    }
+}
+
+/// A place on a side: as far from another as the reach, one less or more, or nearer; any where that is off the side.
+fn beside(random: &mut Random, place: usize, reach: usize, side: usize) -> usize {
+    let nearer = random.below(reach);
+    let far = random.pick(&[reach, reach, reach - 1, reach + 1, nearer]);
+    let other = random.pick(&[place + far, place.wrapping_sub(far)]);
+    if other < side {
+        other
+    } else {
+        random.below(side)
+    }
+}
+
+/// One raw pixel lost near a spot strikes exactly the spots at most R + 2 rows and cols off, R the largest radius, those at the four corners aside.
+pub fn lost(seed: u64, times: usize) -> bool {
+    let (mut maps, mut kept, mut struck, mut corners, mut fault) = (0, 0, 0, 0, None);
+    plan::each("raw", seed, times, |one| {
+        let Case::FromRaw { scene, pixels } = &one.case else {
+            return;
+        };
+        let list = list_of(scene, pixels);
+        if list.is_empty() || pixels.iter().any(|pixel| !pixel.is_finite()) {
+            return;
+        }
+        let [.., last] = levels::kernels(Logs::Steps, &set_of(&scene.set), scene.octave);
+        let reach = last.radius + 2;
+        let at = |spot: &[u8]| {
+            let key = u32::from_le_bytes([spot[32], spot[33], spot[34], spot[35]]) as usize;
+            (key / scene.cols, key % scene.cols)
+        };
+        let random = &mut Random::new(seed, 311, one.number as u64);
+        for _ in 0..8 {
+            let (row, col) = at(&list[SPOT * random.below(list.len() / SPOT)..]);
+            let row = beside(random, row, reach, scene.rows);
+            let col = beside(random, col, reach, scene.cols);
+            let mut lossy = pixels.clone();
+            lossy[col * scene.rows + row] =
+                random.pick(&[f32::NAN, f32::INFINITY, f32::NEG_INFINITY]);
+            let mut due = Vec::new();
+            for spot in list.chunks_exact(SPOT) {
+                let off = (at(spot).0.abs_diff(row), at(spot).1.abs_diff(col));
+                let corner = off == (reach, reach);
+                if off.0 > reach || off.1 > reach || corner {
+                    due.extend_from_slice(spot);
+                    kept += 1;
+                    corners += usize::from(corner);
+                } else {
+                    struck += 1;
+                }
+            }
+            maps += 1;
+            let given = list_of(scene, &lossy);
+            if given != due {
+                let parted = difference(&due, &given);
+                let words = || format!("raw {seed} {}, row {row}, col {col}: {parted}", one.number);
+                fault.get_or_insert_with(words);
+            }
+        }
+    });
+    let seen =
+        format!("{maps} raw maps, {struck} spots struck, {kept} kept, {corners} at a corner");
+    told("a-lost-raw-pixel-strikes-its-square", fault, &seen)
+}
+
 /// How many taps differ between the step lists and Rust's own exp: of set T and the half octaves in octaves 0 and 1, and of random sigmas.
 pub fn taps(seed: u64, times: usize) {
     let mut half_octaves = judge::Set::t();

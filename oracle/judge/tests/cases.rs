@@ -426,3 +426,39 @@ fn a_sum_starts_at_the_centre() {
     let bits: Vec<u32> = left.iter().map(|pixel| pixel.to_bits()).collect();
     assert_eq!((number, bits), (0, vec![0x8000_0000; 4]));
 }
+
+#[test]
+fn a_lost_raw_pixel_reaches_the_radius_and_no_further() {
+    let (rows, cols) = (41, 38);
+    let sound: Vec<f32> = (0..rows * cols).map(|at| (at % 7) as f32 - 3.0).collect();
+    for (octave, row, col, lost) in [
+        (0, 20, 19, f32::NAN),
+        (0, 0, 0, f32::INFINITY),
+        (1, 40, 5, f32::NEG_INFINITY),
+    ] {
+        let mut lossy = sound.clone();
+        lossy[col * rows + row] = lost;
+        let [clean, made] = [&sound, &lossy].map(|pixels| {
+            let map = RawMap {
+                rows,
+                cols,
+                octave,
+                pixels,
+            };
+            let mut out = [0; 4].map(|_| vec![0.0; rows * cols]);
+            judge::levels(&Set::t().to_record(), map, &mut out).map(|()| out)
+        });
+        let (clean, made) = (clean.unwrap(), made.unwrap());
+        let kernels = levels::kernels(Logs::Steps, &Set::t(), octave);
+        for (level, kernel) in kernels.iter().enumerate() {
+            for at in 0..rows * cols {
+                let off = (at % rows).abs_diff(row).max((at / rows).abs_diff(col));
+                let pixel = made[level][at];
+                match off <= kernel.radius {
+                    true => assert!(!pixel.is_finite()),
+                    false => assert_eq!(pixel.to_bits(), clean[level][at].to_bits()),
+                }
+            }
+        }
+    }
+}

@@ -5,10 +5,6 @@ use crate::here::with;
 use crate::whole::blurred::{self, Kernel};
 use crate::{Answer, Logs, Map, Pass, Rules, Set, entries, whole};
 
-/// The largest radius, and how many taps a kernel has room for.
-pub const WIDEST: usize = 16;
-pub const TAPS: usize = WIDEST + 1;
-
 /// Raw pixels by columns.
 #[derive(Clone, Copy, Debug)]
 pub struct RawMap<'a> {
@@ -87,7 +83,7 @@ pub fn kernel(logs: Logs, octave: usize, third: f32, target: f32) -> Kernel {
     first
 }
 
-/// One level by a kernel given, its radius at most the widest.
+/// One level by a kernel given, its radius at most 16.
 pub fn blur(kernel: &Kernel, map: RawMap) -> Vec<f32> {
     with(Rules::Document, Logs::Steps, &Set::t(), || {
         blurred::level(map.base(), kernel)
