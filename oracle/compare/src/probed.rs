@@ -25,8 +25,8 @@ const FAMILIES: [(&str, usize); 6] = [
     ("cancelling", 1),
     ("inflected", 1),
     ("floats", 1),
-    ("kernels", 2),
-    ("blurs", 16),
+    ("kernels", 4),
+    ("blurs", 32),
 ];
 
 /// What was seen, by function.
@@ -67,9 +67,9 @@ fn due(count: usize) -> Vec<(&'static str, usize)> {
     let [gaussian, kernel, blur] = levels::FUNCTIONS;
     let inner = FUNCTIONS.iter().map(|&function| (function, count));
     let made = [
-        (gaussian, count / 4),
-        (kernel, count / 4),
-        (blur, count / 16),
+        (gaussian, count / 8),
+        (kernel, count / 8),
+        (blur, count / 32),
     ];
     inner.chain(made).collect()
 }
