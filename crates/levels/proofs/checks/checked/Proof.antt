@@ -28,22 +28,22 @@ returns-2 c = rw (c .before .before .if1 .left, ne-eqb _ _ (c .if2 .taken))
 
 returns-3 : tie.Need-returns-3
 unfolding levelsChecks firstOf unless
-returns-3 c = rw (c .before .before .before .if1 .left, eq-eqb _ _ (c .before .if2 .left), lt-ltb _ _ (c .if3 .taken))
+returns-3 c = rw (c .before .before .before .if1 .left, eq-eqb _ _ (c .before .if2 .left), lt-ltb 5 _ (c .if3 .taken))
 
 returns-4 : tie.Need-returns-4
 unfolding levelsChecks firstOf unless
-returns-4 c = rw (c .before .before .before .before .if1 .left, eq-eqb _ _ (c .before .before .if2 .left), le-ltb _ _ (c .before .if3 .left), ← c .before .before .before .is-good .ensures, not-true (c .before .before .before .is-good .result) (c .if4 .taken))
+returns-4 c = rw (c .before .before .before .before .if1 .left, eq-eqb _ _ (c .before .before .if2 .left), le-ltb 5 _ (c .before .if3 .left), ← c .before .before .before .is-good .ensures, not-true (c .before .before .before .is-good .result) (c .if4 .taken))
 
 short-requires : tie.Need-short-requires
 short-requires c κs = search needs
 
 returns-5 : tie.Need-returns-5
 unfolding levelsChecks firstOf unless
-returns-5 c = rw (c .before .before .before .before .before .before .if1 .left, eq-eqb _ _ (c .before .before .before .before .if2 .left), le-ltb _ _ (c .before .before .before .if3 .left), ← c .before .before .before .before .before .is-good .ensures, not-false (c .before .before .before .before .before .is-good .result) (c .before .before .if4 .left), ← c .before .short .ensures, c .if5 .taken)
+returns-5 c = rw (c .before .before .before .before .before .before .if1 .left, eq-eqb _ _ (c .before .before .before .before .if2 .left), le-ltb 5 _ (c .before .before .before .if3 .left), ← c .before .before .before .before .before .is-good .ensures, not-false (c .before .before .before .before .before .is-good .result) (c .before .before .if4 .left), ← c .before .short .ensures, c .if5 .taken)
 
 returns-6 : tie.Need-returns-6
 unfolding levelsChecks firstOf unless
-returns-6 c = rw (c .before .before .before .before .before .before .if1 .left, eq-eqb _ _ (c .before .before .before .before .if2 .left), le-ltb _ _ (c .before .before .before .if3 .left), ← c .before .before .before .before .before .is-good .ensures, not-false (c .before .before .before .before .before .is-good .result) (c .before .before .if4 .left), ← c .before .short .ensures, c .if5 .left)
+returns-6 c = rw (c .before .before .before .before .before .before .if1 .left, eq-eqb _ _ (c .before .before .before .before .if2 .left), le-ltb 5 _ (c .before .before .before .if3 .left), ← c .before .before .before .before .before .is-good .ensures, not-false (c .before .before .before .before .before .is-good .result) (c .before .before .if4 .left), ← c .before .short .ensures, c .if5 .left)
 
 pub checked-spec : {M : Type 1} → statement M
 checked-spec =
