@@ -1,4 +1,3 @@
-mod Newton
 pub mod Bools
 pub mod Floats
 pub mod Order
@@ -6,6 +5,7 @@ pub mod Patterns
 mod Width
 mod Places
 mod Roots
+mod Trial
 mod Scaled
 pub mod SqrtClaims
 pub mod SqrtClosest

@@ -7,28 +7,25 @@ ghost use Rattle.float.specs.Sqrt.{sqrtOf, rootPattern};
 use crate::bits::field;
 use crate::bits::lead;
 
-// A number not below the cut root of n: one step of Newton's iteration from the power of two near it, so that few are left.
-fn first_step(n: u64) -> u64
-    requires { ⌜ n < 2 ^ 48 ⌝ }
-    ensures { λ r. ⌜ (n < (r + 1) * (r + 1)) × (r ≤ 0x100_0000) ⌝ }
-{
-    if n < 0x8000_0000_0000 {
-        (0x80_0000 + n / 0x80_0000) / 2
-    } else {
-        (0x100_0000 + n / 0x100_0000) / 2
-    }
-}
-
-// The root of n, cut to a whole number, by Newton's iteration from above.
+// The root of n, cut to a whole number, by trial of bits, the highest first. Where q stands for the bits so far and b for the one to be tried, `bit` is
+// b * b, `root` 2 * b * q and `rest` n - q * q: whether q + b is still a root of at most n takes a sum and a comparison.
 fn root_of(n: u64) -> u64
     requires { ⌜ n < 2 ^ 48 ⌝ }
     ensures { λ r. ⌜ r ≡ isqrt n ⌝ }
 {
-    let mut r = first_step(n);
-    while n < r * r {
-        r = (r + n / r) / 2;
+    let mut rest = n;
+    let mut root: u64 = 0;
+    let mut bit: u64 = 0x4000_0000_0000;
+    while 0 < bit {
+        let tried = root + bit;
+        root >>= 1;
+        if tried <= rest {
+            rest -= tried;
+            root += bit;
+        }
+        bit >>= 2;
     }
-    r
+    root
 }
 
 // The whole number nearest to the root of n.

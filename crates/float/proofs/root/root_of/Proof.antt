@@ -1,51 +1,48 @@
--- `float::root::root_of` meets its contract, by Newton's iteration from above: n is below the square of r + 1, and r is at most 2 ^ 24. The measure is r. Assumes nothing.
-use Prim.Native.Nat.{ℕ, _+_, _*_, _^_, _≤_, _<_}
-use native.Mathlib.Nat.{le-trans, le-of-lt, lt-of-le-of-lt, mul-le-mul, div-le-self}
+-- `float::root::root_of` meets its contract: `Trial` says what holds after each bit. The measure is the next bit's square. Assumes nothing.
+use mathlib.Core.Path.{_≡_, subst}
+use mathlib.Core.Logic.{⊎-elim}
+use Prim.Native.Nat.{ℕ, zero, suc, _+_, _*_, _/_, _^_, _≤_, _<_}
 use native.Mathlib.Omega.{arith}
 use borrow.Author.Needs.{needs}
-use lib.Dec.{lit<}
-use Rattle.float.proofs.Newton.{newton-above, newton-below, sq-pos}
-use Rattle.float.proofs.Roots.{isqrt-is}
+use Rattle.float.proofs.Trial.{Found, none-yet, bit-taken, bit-left, all-tried}
 use Rattle.float.proofs.root.root_of.Statement.{statement}
 use Rattle.float.proofs.root.root_of.Tie as tie
 
 abbrev Inv-loop : tie.InvT-loop
-Inv-loop n r₀ r = (n < (r + 1) * (r + 1)) × (r ≤ 16777216)
+Inv-loop n rest₀ root₀ bit₀ rest root bit = (root ≤ 2 ^ 48) × (bit ≤ 2 ^ 46) × Found n rest root bit
 
 abbrev μ-loop : tie.MeasureT-loop
-μ-loop n r₀ r = r
-
-first-step-requires : tie.Need-first-step-requires Inv-loop μ-loop
-first-step-requires c κs = search needs
+μ-loop n rest₀ root₀ bit₀ rest root bit = bit
 
 loop-holds : tie.Need-loop-holds Inv-loop μ-loop
-loop-holds c = c .first-step .ensures
+loop-holds c = (omega arith, omega arith, none-yet (c .args .n) (c .pre))
 
-square-fits : (r : ℕ) → r ≤ 16777216 → r * r < 2 ^ 64
-square-fits r h = lt-of-le-of-lt (mul-le-mul h h) (lit< tt)
+add-tried : tie.Need-add-tried Inv-loop μ-loop
+add-tried c = omega arith
 
-mul-loop : tie.Need-mul-loop Inv-loop μ-loop
-mul-loop c = record { fits = square-fits (c .loop .r) (c .loop .inv .1) }
-
-div-r : tie.Need-div-r Inv-loop μ-loop
-div-r c = sq-pos (c .before .before .before .args .n) (c .before .loop .r) (c .loop-test .taken)
-
-add-r : tie.Need-add-r Inv-loop μ-loop
-add-r c = omega (arith, div-le-self (c .before .before .before .args .n) (c .before .loop .r))
+add-root : tie.Need-add-root Inv-loop μ-loop
+add-root c = omega arith
 
 loop-less : tie.Need-loop-less Inv-loop μ-loop
-loop-less c = newton-below (c .before .before .before .args .n) (c .before .loop .r) (c .loop-test .taken)
+loop-less c = omega arith
 
 loop-again : tie.Need-loop-again Inv-loop μ-loop
 loop-again c =
     let n = c .before .before .before .args .n in
-    let r = c .before .loop .r in
-    (newton-above n r (sq-pos n r (c .loop-test .taken)), le-trans (le-of-lt (newton-below n r (c .loop-test .taken))) (c .before .loop .inv .1))
+    let s = c .before .before .loop in
+    let some = c .before .loop-test .taken in
+    ⊎-elim
+    (λ w. rw (w .1, w .2) (omega arith, omega arith, bit-taken n (s .rest) (s .root) (s .bit) (s .inv .2) some (w .0 .taken)))
+    (λ w. rw (w .1, w .2) (omega arith, omega arith, bit-left n (s .rest) (s .root) (s .bit) (s .inv .2) some (w .0 .left)))
+    (c .if1 .came)
 
 returns : tie.Need-returns Inv-loop μ-loop
-returns c = isqrt-is (c .before .before .before .args .n) (c .before .loop .r) (c .before .before .before .pre) (c .loop-test .left) (c .before .loop .inv .0)
+returns c =
+    let n = c .before .before .args .n in
+    let s = c .before .loop in
+    let none : s .bit ≡ 0 = omega arith in
+    all-tried n (s .rest) (s .root) (c .before .before .pre) (subst (Found n (s .rest) (s .root)) none (s .inv .2))
 
 pub root-of-spec : {M : Type 1} → statement M
 root-of-spec =
-    tie.close
-    (tie.spec Inv-loop μ-loop first-step-requires loop-holds mul-loop div-r add-r loop-less loop-again returns)
+    tie.close (tie.spec Inv-loop μ-loop loop-holds add-tried add-root loop-less loop-again returns)
