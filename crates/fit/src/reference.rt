@@ -63,7 +63,7 @@ fn both(k: [f32; 4], sigmas: [f32; 4], e: Envelope) -> Envelope
 {
     let d = discriminant(k);
     if d > 0.0 {
-        let root = float::sqrt(d);
+        let root = quick::sqrt(d);
         let low = lowered(k, sigmas, first_of(k, false, root), e);
         raised(k, sigmas, second_of(k, root), low)
     } else {

@@ -123,7 +123,7 @@ fn stationary(k: [f32; 4], is_max: bool) -> Stationary
     if is_cubic(k) {
         let d = discriminant(k);
         if d > 0.0 {
-            return Stationary::At(second_of(k, sign_of(is_max) * float::sqrt(d)));
+            return Stationary::At(second_of(k, sign_of(is_max) * quick::sqrt(d)));
         }
         return Stationary::Nowhere;
     }

@@ -107,7 +107,7 @@ pub fn shape(k: [f32; 4], sigmas: [f32; 4], l0: f32, l3: f32) -> Envelope
     turns(
         k,
         sigmas,
-        float::sqrt(float::max(discriminant(k), 0.0)),
+        quick::sqrt(float::max(discriminant(k), 0.0)),
         ends(l0, l3),
     )
 }

@@ -2,11 +2,11 @@ pub mod Bools
 pub mod Floats
 pub mod Order
 pub mod Patterns
-mod Width
+pub mod Width
 mod Places
-mod Roots
+pub mod Roots
 mod Trial
-mod Scaled
+pub mod Scaled
 pub mod SqrtClaims
 pub mod SqrtClosest
 mod Steps

@@ -28,10 +28,10 @@ pub fn roots(v: [f32; 4]) -> [f32; 4]
     ensures { λ r. ⌜ r ≡ rootsOf v ⌝ }
 {
     [
-        float::sqrt(v[0]),
-        float::sqrt(v[1]),
-        float::sqrt(v[2]),
-        float::sqrt(v[3]),
+        quick::sqrt(v[0]),
+        quick::sqrt(v[1]),
+        quick::sqrt(v[2]),
+        quick::sqrt(v[3]),
     ]
 }
 

@@ -90,7 +90,7 @@ fn weight(g: Geometry, beta: f32) -> f32
 fn signed_root(c: f32, discriminant: f32) -> f32
     ensures { λ r. ⌜ r ≡ signedRoot c discriminant ⌝ }
 {
-    let root = float::sqrt(discriminant);
+    let root = quick::sqrt(discriminant);
     if c < 0.0 { -root } else { root }
 }
 

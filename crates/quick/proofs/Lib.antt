@@ -1,0 +1,2 @@
+pub mod Three
+pub mod Normal

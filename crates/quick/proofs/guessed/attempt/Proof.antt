@@ -1,0 +1,60 @@
+-- `quick::guessed::attempt` meets its contract. Assumes nothing.
+use mathlib.Core.Path.{_∙_}
+use native.Mathlib.Omega.{arith}
+use Rattle.quick.proofs.Normal.{exponentOf, digitsOf, doubled-is, normal-pattern}
+use borrow.Author.Needs.{needs}
+use Rattle.quick.proofs.guessed.attempt.Statement.{statement}
+use Rattle.quick.proofs.guessed.attempt.Tie as tie
+
+add-e : tie.Need-add-e
+add-e c = search needs
+
+add-m : tie.Need-add-m
+add-m c = search needs
+
+mul-base : tie.Need-mul-base
+mul-base c = search needs
+
+add-wrapping-sub-u32 : tie.Need-add-wrapping-sub-u32
+add-wrapping-sub-u32 c = search needs
+
+wrapping-sub-u32-requires : tie.Need-wrapping-sub-u32-requires
+wrapping-sub-u32-requires c κs = search needs
+
+doubled-requires : tie.Need-doubled-requires
+doubled-requires c κs = search needs
+
+wide-requires : tie.Need-wide-requires
+wide-requires c κs = search needs
+
+mul-settle : tie.Need-mul-settle
+mul-settle c = search needs
+
+settle-requires : tie.Need-settle-requires
+settle-requires c κs = (omega (arith, c .before .doubled .ensures .1, c .wide .ensures), omega arith)
+
+add-t8 : tie.Need-add-t8
+add-t8 c = search needs
+
+returns : tie.Need-returns
+returns c =
+    let s = c .before .before .before .before .before in
+    let n = c .before .before .wide .ensures ∙ c .before .before .before .doubled .ensures .0 in
+    let p = s .args .p in
+    (omega (arith, c .before .settle .ensures .0), λ near. rw (c .before .settle .ensures .1 near, n, doubled-is (digitsOf p) (exponentOf p)) (normal-pattern p (s .pre .0)))
+
+pub attempt-spec : {M : Type 1} → statement M
+attempt-spec =
+    tie.close
+    (tie.spec
+    add-e
+    add-m
+    mul-base
+    add-wrapping-sub-u32
+    wrapping-sub-u32-requires
+    doubled-requires
+    wide-requires
+    mul-settle
+    settle-requires
+    add-t8
+    returns)

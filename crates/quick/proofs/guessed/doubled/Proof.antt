@@ -1,0 +1,17 @@
+-- `quick::guessed::doubled` meets its contract. Assumes nothing.
+use native.Mathlib.Omega.{arith}
+use borrow.Author.Needs.{needs}
+use Rattle.quick.proofs.guessed.doubled.Statement.{statement}
+use Rattle.quick.proofs.guessed.doubled.Tie as tie
+
+add-result : tie.Need-add-result
+add-result c = search needs
+
+returns : tie.Need-returns
+returns c = (rw (c .if1 .taken), omega arith)
+
+returns-2 : tie.Need-returns-2
+returns-2 c = search needs
+
+pub doubled-spec : {M : Type 1} → statement M
+doubled-spec = tie.close (tie.spec add-result returns returns-2)

@@ -1,0 +1,100 @@
+// The square root of an f32, guessed in float steps and settled by one square of whole numbers. Where that settles nothing, `float::sqrt` does.
+ghost use mathlib.Core.Path.{_≡_};
+ghost use mathlib.Core.Bool.{true, cond};
+ghost use Prim.Native.Nat.{_+_, _*_, _%_, _^_, _≤_, _<_};
+ghost use Rattle.float.specs.Root.{nearRoot};
+ghost use Rattle.float.specs.Pattern.{unitsOf};
+ghost use Rattle.float.specs.Sqrt.{sqrtOf, rootPattern};
+
+// A root, or its pattern, that is right where `near` holds.
+struct Trial {
+    root: u32,
+    near: bool,
+}
+
+// 1 or 0.
+fn one(test: bool) -> u32
+    ensures { λ r. ⌜ (r ≡ cond test 1 0) × (r ≤ 1) ⌝ }
+{
+    if test { 1 } else { 0 }
+}
+
+// The same number, wider.
+fn wide(x: u32) -> u64
+    ensures { λ r. ⌜ r ≡ x ⌝ }
+{
+    x as u64
+}
+
+// Close to the root of the normal value with the pattern p: two of Newton's steps for the root's inverse, one for the root. Nothing is claimed of it.
+fn guess(p: u32) -> f32
+    requires { ⌜ p < 0x7f80_0000 ⌝ }
+{
+    let x = f32::from_bits(p);
+    let h = 0.5 * x;
+    let y0 = f32::from_bits(0x5f37_6908 - p / 2);
+    let y1 = y0 * (1.5008789 - h * y0 * y0);
+    let y = y1 * (1.5000006 - h * y1 * y1);
+    let r = x * y;
+    r + (x - r * r) * (0.5 * y)
+}
+
+// n + k less the square of k, cut to the width.
+fn gap(n: u64, k: u64) -> u64
+    requires { ⌜ (n < 2 ^ 48) × (k < 2 ^ 25) ⌝ }
+    ensures { λ r. ⌜ (r + k * k) % 2 ^ 64 ≡ n + k ⌝ }
+{
+    std::num::wrapping_sub_u64(n + k, k * k)
+}
+
+// k, k + 1 or k + 2, whichever is nearest to the root of n, where one of them is.
+fn settle(n: u64, k: u32) -> Trial
+    requires { ⌜ (n < 2 ^ 48) × (k < 2 ^ 25) ⌝ }
+    ensures { λ r. ⌜ (r .root ≤ k + 2) × (r .near ≡ true → r .root ≡ nearRoot n) ⌝ }
+{
+    let w = gap(n, wide(k));
+    let t = (w % 0x1_0000_0000) as u32;
+    let k2 = k + k;
+    let k4 = k2 + k2;
+    let near = (w / 0x1_0000_0000 == 0) & (t != 0) & (t <= k4 + k2 + 6);
+    let root = k + one(t > k2) + one(t > k4 + 2);
+    Trial { root, near }
+}
+
+// m, or twice m.
+fn doubled(m: u32, odd: bool) -> u32
+    requires { ⌜ m < 2 ^ 24 ⌝ }
+    ensures { λ r. ⌜ (r ≡ cond odd (m + m) m) × (r < 2 ^ 25) ⌝ }
+{
+    if odd { m + m } else { m }
+}
+
+// The pattern of the root of the normal value with the pattern p, from a guess with the pattern g.
+fn attempt(p: u32, g: u32) -> Trial
+    requires { ⌜ (2 ^ 23 ≤ p) × (p < 0x7f80_0000) ⌝ }
+    ensures { λ r. ⌜ (r .root < 0x7f80_0000) × (r .near ≡ true → r .root ≡ rootPattern (unitsOf p)) ⌝ }
+{
+    let e = p / 0x80_0000 + 125;
+    let m = p % 0x80_0000 + 0x80_0000;
+    let base = e / 2 * 0x80_0000;
+    let k = std::num::wrapping_sub_u32(g, base + 1) % 0x200_0000;
+    let s = settle(wide(doubled(m, e % 2 == 1)) * 0x80_0000, k);
+    Trial {
+        root: base + s.root,
+        near: s.near,
+    }
+}
+
+// The square root: `float::sqrt`'s, and at a normal value most often in a fraction of its time.
+pub fn sqrt(x: f32) -> f32
+    ensures { λ r. ⌜ r ≡ sqrtOf x ⌝ }
+{
+    let b = words::bits(x);
+    if (0x80_0000 <= b) & (b < 0x7f80_0000) {
+        let t = attempt(b, words::bits(guess(b)));
+        if t.near {
+            return f32::from_bits(t.root);
+        }
+    }
+    float::sqrt(x)
+}
