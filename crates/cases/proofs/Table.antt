@@ -6,8 +6,8 @@ use lib.Ieee.{ofBits, toBits, ofFields, ofInt, odd, size, round, add, sub, mul, 
 use Rattle.float.specs.Small.{finite, absOf, minOf, maxOf, clampOf}
 use Rattle.float.specs.Root.{nearRoot, nearer, isqrt, rootBy, digit}
 use Rattle.float.specs.Sqrt.{sqrtOf, rootUnits, inUnits, scale, radicand}
-use Rattle.float.specs.Log.{squared, digitsOf, scaledOf, joined, log2Pos, log2Of}
-use Rattle.float.specs.Exp.{fixedOf, seriesOf, capped, expUp, expDown, belowOne, expOf}
+use Rattle.logexp.specs.Log.{squared, digitsOf, scaledOf, joined, log2Pos, log2Of}
+use Rattle.logexp.specs.Exp.{fixedOf, seriesOf, capped, expUp, expDown, belowOne, expOf}
 use Rattle.whole.specs.Nearest.{saturated, nearestTo, nearestOf}
 use Rattle.tables.specs.Set.{every, rising, allSet, good, blank}
 use Rattle.tables.specs.Refusal as refusals

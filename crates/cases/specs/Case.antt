@@ -4,7 +4,7 @@ use mathlib.Core.List.{List, [], _∷_}
 use mathlib.Core.Bool.{Bool}
 use lib.Ieee.{Float, binary32, ofBits, toBits}
 use Rattle.float.specs.Sqrt.{sqrtOf}
-use Rattle.float.specs.Log.{log2Of}
+use Rattle.logexp.specs.Log.{log2Of}
 use Rattle.whole.specs.Nearest.{nearestOf}
 use Rattle.tables.specs.Refusal.{number}
 use Rattle.tables.specs.SetT.{values}

@@ -5,12 +5,13 @@ use native.Mathlib.Nat.{mul-pos, zero-lt-suc, zero-mul, mul-one, one-mul, pow-su
 use native.Mathlib.Omega.{arith}
 use mathlib.Core.Bool.{Bool, true, false, not, true≢false, false≢true}
 use lib.IntN.{ℤ, pos, negsuc}
-use lib.Dec.{T, eqb, eqb-refl, eqb→eq}
+use lib.Dec.{T, eqb, eqb-refl, eqb→eq, lt→ltb}
 use lib.Pow.{pow-pos}
 use lib.Ieee.{Float, nan, inf, fin, binary32, up, down, lt, eq, ne, isNan, fits, ofInt, ofBits, odd, div}
 use lib.Ieee.Exact.{HasValue}
 use lib.Ieee.Back.{round-whole}
 use lib.Ieee.Fits.{up-pos}
+use lib.Ieee.Positive.{positive}
 use lib.Ieee.Bits.{is-true}
 use borrow.Author.Tests.{lt-ltb, le-ltb, ne-eqb}
 use Rattle.float.specs.Num.{f0}
@@ -99,3 +100,13 @@ flat (negsuc k) h = absurd (two-up (2 ^ k) (pow-pos k) (sym (pow-succ' 2 k) ∙ 
 pub zero-exp : (s : Bool) (e : ℤ) → T (fits binary32 (fin s zero e)) → e ≡ pos 0
 unfolding fits
 zero-exp s e t = flat e (eqb→eq (up e * down e) 1 t)
+
+-- what is no NaN, not below 0, not 0 and not infinite is positive and finite
+pub is-positive : (x : Float) → ne x x ≡ false → lt x f0 ≡ false → eq x f0 ≡ false → eq x (inf false) ≡ false → T (positive x)
+unfolding lt eq isNan ofBits
+is-positive nan n l z i = absurd (true≢false (sym (ne-self nan) ∙ n))
+is-positive (inf true) n l z i = absurd (true≢false l)
+is-positive (inf false) n l z i = absurd (true≢false i)
+is-positive (fin s zero e) n l z i = absurd (true≢false (sym (zero-eq-zero s e) ∙ z))
+is-positive (fin true (suc m) e) n l z i = absurd (true≢false (sym (lt-zero true m e) ∙ l))
+is-positive (fin false (suc m) e) n l z i = lt→ltb 0 (suc m) (zero-lt-suc m)

@@ -1,5 +1,5 @@
 -- A root's bits found one after another, the highest first, over whole numbers. Assumes nothing.
-use mathlib.Core.Path.{_≡_, refl, sym, ap, _∙_, subst}
+use mathlib.Core.Path.{_≡_, refl, sym, _∙_, subst}
 use Prim.Native.Nat.{ℕ, zero, suc, _+_, _-_, _*_, _/_, _^_, _≤_, _<_}
 use native.Mathlib.Nat.{mul-add, add-mul, mul-comm, mul-one, mul-pos, mul-left-comm, mul-mul-mul-comm, pow-succ'}
 use native.Mathlib.Omega.{arith}

@@ -4,6 +4,4 @@ pub mod Pattern
 pub mod Root
 pub mod Sqrt
 pub mod Square
-pub mod Log
-pub mod Exp
 pub mod Claims

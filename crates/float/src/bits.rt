@@ -1,4 +1,4 @@
-// The two parts of a positive finite pattern.
+// The two parts of a positive finite pattern, and a number made wider.
 ghost use mathlib.Core.Path.{_≡_};
 ghost use Rattle.float.specs.Pattern.{leadOf, fieldOf};
 
@@ -18,4 +18,11 @@ pub fn field(b: u32) -> u32
     ensures { λ r. ⌜ r ≡ fieldOf b ⌝ }
 {
     if b < 0x80_0000 { 1 } else { b >> 23 }
+}
+
+// The same number, wider.
+pub fn to_u64(m: u32) -> u64
+    ensures { λ r. ⌜ r ≡ m ⌝ }
+{
+    m as u64
 }

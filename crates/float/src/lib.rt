@@ -1,13 +1,12 @@
-// The float helpers of f32: absolute value, min, max, clamp, finiteness, square root, log2, exp.
+// The float helpers of f32: absolute value, min, max, clamp, finiteness, square root; and what reads a pattern: its two parts, and a number made wider.
 // Each has no `requires`, and its `ensures` gives the result as one value of the arguments, by a definition of specs/.
 mod bits;
-mod exponential;
-mod logarithm;
 mod root;
 mod small;
 
-pub use exponential::exp;
-pub use logarithm::log2;
+pub use bits::field;
+pub use bits::lead;
+pub use bits::to_u64;
 pub use root::sqrt;
 pub use small::abs;
 pub use small::clamp;

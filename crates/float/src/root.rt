@@ -1,11 +1,12 @@
 // The square root of an f32: the root of a whole number of 47 or 48 binary digits, rounded.
 ghost use mathlib.Core.Path.{_≡_};
-ghost use Prim.Native.Nat.{_+_, _*_, _^_, _≤_, _<_};
+ghost use Prim.Native.Nat.{_+_, _*_, _^_, _<_};
 ghost use Rattle.float.specs.Root.{isqrt, nearRoot};
 ghost use Rattle.float.specs.Pattern.{unitsOf};
 ghost use Rattle.float.specs.Sqrt.{sqrtOf, rootPattern};
 use crate::bits::field;
 use crate::bits::lead;
+use crate::bits::to_u64;
 
 // The root of n, cut to a whole number, by trial of bits, the highest first. Where q stands for the bits so far and b for the one to be tried, `bit` is
 // b * b, `root` 2 * b * q and `rest` n - q * q: whether q + b is still a root of at most n takes a sum and a comparison.
@@ -35,13 +36,6 @@ fn near_root(n: u64) -> u64
 {
     let r = root_of(n);
     if n <= r * r + r { r } else { r + 1 }
-}
-
-// The same number, wider.
-fn to_u64(m: u32) -> u64
-    ensures { λ r. ⌜ r ≡ m ⌝ }
-{
-    m as u64
 }
 
 // The pattern of the root of m * 2^k units of 2^-149. m is brought to full width by its

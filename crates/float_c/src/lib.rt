@@ -2,8 +2,8 @@
 ghost use mathlib.Core.Path.{_≡_};
 ghost use Rattle.float.specs.Small.{finite, absOf, minOf, maxOf, clampOf};
 ghost use Rattle.float.specs.Sqrt.{sqrtOf};
-ghost use Rattle.float.specs.Log.{log2Of};
-ghost use Rattle.float.specs.Exp.{expOf};
+ghost use Rattle.logexp.specs.Log.{log2Of};
+ghost use Rattle.logexp.specs.Exp.{expOf};
 ghost use Rattle.whole.specs.Nearest.{nearestOf};
 
 #[no_mangle]
@@ -52,14 +52,14 @@ pub extern "C" fn uramsheg_sqrt(x: f32) -> f32
 pub extern "C" fn uramsheg_log2(x: f32) -> f32
     ensures { λ r. ⌜ r ≡ log2Of x ⌝ }
 {
-    float::log2(x)
+    logexp::log2(x)
 }
 
 #[no_mangle]
 pub extern "C" fn uramsheg_exp(x: f32) -> f32
     ensures { λ r. ⌜ r ≡ expOf x ⌝ }
 {
-    float::exp(x)
+    logexp::exp(x)
 }
 
 #[no_mangle]

@@ -9,7 +9,7 @@ use lib.Ieee.{Float, nan, inf, fin, binary32, up, down, lt, neg, ofInt, ofBits}
 use Rattle.float.specs.Num.{_⊕_, _⊖_, _⊗_, _⊘_, f0, f1, f2}
 use Rattle.float.specs.Small.{maxOf}
 use Rattle.float.specs.Sqrt.{sqrtOf}
-use Rattle.float.specs.Exp.{expOf}
+use Rattle.logexp.specs.Exp.{expOf}
 use Rattle.kernels.specs.declared.Kernel.{Kernel}
 
 -- 0.5

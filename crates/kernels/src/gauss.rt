@@ -33,7 +33,7 @@ fn weight(sigma: f32, radius: usize, i: usize) -> f32
     ensures { λ r. ⌜ r ≡ weightOf sigma radius i ⌝ }
 {
     let d = (count(i) - count(radius)) / sigma;
-    float::exp(-0.5 * d * d)
+    logexp::exp(-0.5 * d * d)
 }
 
 // The sum of the full kernel's weights, in the order of their places.

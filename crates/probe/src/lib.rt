@@ -2,6 +2,7 @@
 // Each takes plain numbers and the record of a set, and answers one number: the i-th where the result has several, NaN past the end.
 ghost use mathlib.Core.Path.{_≡_};
 ghost use mathlib.Core.List.{[], _∷_};
+ghost use Rattle.float.specs.Sqrt.{sqrtOf};
 ghost use Rattle.fit.specs.Cubic.{hornerOf};
 ghost use Rattle.fit.specs.Band.{extremeOf};
 ghost use Rattle.fit.specs.Owns.{ownsOf};
@@ -28,6 +29,13 @@ pub extern "C" fn probe_cubic(
 {
     let k = parts::cubic(parts::held_in(set), geometry, [l0, l1, l2, l3]);
     parts::number_at(&k, i)
+}
+
+#[no_mangle]
+pub extern "C" fn probe_quick(x: f32) -> f32
+    ensures { λ r. ⌜ r ≡ sqrtOf x ⌝ }
+{
+    quick::sqrt(x)
 }
 
 #[no_mangle]

@@ -12,9 +12,13 @@ use Rattle.float.proofs.max as max
 use Rattle.float.proofs.clamp as clamp
 use Rattle.float.proofs.is_finite as is-finite
 use Rattle.float.proofs.sqrt as sqrt
-use Rattle.float.proofs.log2 as log2
-use Rattle.float.proofs.exp as exp
+use Rattle.float.proofs.lead as lead
+use Rattle.float.proofs.field as field
+use Rattle.float.proofs.to_u64 as to-u64
+use Rattle.logexp.proofs.log2 as log2
+use Rattle.logexp.proofs.exp as exp
 use Rattle.whole.proofs.nearest as nearest
+use Rattle.quick.proofs.sqrt as quick-sqrt
 use Rattle.float_c.proofs.uramsheg_abs as uramsheg-abs
 use Rattle.float_c.proofs.uramsheg_min as uramsheg-min
 use Rattle.float_c.proofs.uramsheg_max as uramsheg-max
@@ -56,6 +60,20 @@ module _ {M : Type 1} (𝓤 : URA M) (H : Heap 𝓤) (A : Atoms 𝓤) (mem : Mem
 
   pub nearest-settled : Settles 𝓤 nearest.ended (nearest.clauses 𝓤 H A mem run)
   nearest-settled κs a g g' r r' ws ws' = one-answer 𝓤 _
+
+  -- ---- inside: a pattern's parts, and the guessed root
+
+  pub lead-settled : Settles 𝓤 lead.ended (lead.clauses 𝓤 H A mem run)
+  lead-settled κs a g g' r r' ws ws' = one-answer 𝓤 _
+
+  pub field-settled : Settles 𝓤 field.ended (field.clauses 𝓤 H A mem run)
+  field-settled κs a g g' r r' ws ws' = one-answer 𝓤 _
+
+  pub to-u64-settled : Settles 𝓤 to-u64.ended (to-u64.clauses 𝓤 H A mem run)
+  to-u64-settled κs a g g' r r' ws ws' = one-answer 𝓤 _
+
+  pub quick-sqrt-settled : Settles 𝓤 quick-sqrt.ended (quick-sqrt.clauses 𝓤 H A mem run)
+  quick-sqrt-settled κs a g g' r r' ws ws' = one-answer 𝓤 _
 
   -- ---- for C
 

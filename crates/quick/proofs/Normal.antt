@@ -1,8 +1,7 @@
 -- The root of a normal value from its pattern, with no zeros to count, and the whole-number check of a guess. Assumes nothing.
-use mathlib.Core.Path.{_≡_, refl, sym, ap, _∙_, subst}
-use mathlib.Core.Logic.{_⊎_, inl, inr}
+use mathlib.Core.Path.{_≡_, refl, ap, _∙_, subst}
 use Prim.Native.Nat.{ℕ, zero, suc, _+_, _-_, _*_, _/_, _%_, _^_, _≤_, _<_}
-use native.Mathlib.Nat.{lt-of-lt-of-le, lt-of-not-le, not-le-of-lt, mul-le-mul, mul-one, mul-pos}
+use native.Mathlib.Nat.{lt-of-not-le, not-le-of-lt, mul-le-mul, mul-one, mul-pos}
 use native.Mathlib.Omega.{arith}
 use mathlib.Core.Bool.{Bool, true, false, not, cond, _&&_}
 use lib.Dec.{T, eqb, ltb, leb}
@@ -11,13 +10,13 @@ use lib.Count.{leadingZeros}
 use lib.Ieee.{Float, binary32, fits, ofBits, toBits}
 use lib.Ieee.Bits.{ofBits-toBits}
 use lib.Ieee.Exact.{HasValue}
-use lib.Ieee.Positive.{positive, positive-of-value}
+use lib.Ieee.Positive.{positive-of-value}
 use borrow.Author.Tests.{ltb-true, ltb-false, leb-true, eqb-true, eqb-false, not-true}
 use Rattle.float.specs.Root.{nearRoot}
-use Rattle.float.specs.Pattern.{leadOf, fieldOf, unitsOf}
+use Rattle.float.specs.Pattern.{fieldOf, unitsOf}
 use Rattle.float.specs.Sqrt.{rootPattern, sqrtOf}
 use Rattle.float.proofs.Bools.{both}
-use Rattle.float.proofs.Patterns.{lead-is, lead-in, plus-value}
+use Rattle.float.proofs.Patterns.{lead-in, normal-units, plus-value}
 use Rattle.float.proofs.Width.{widen}
 use Rattle.float.proofs.Scaled.{zeros, pattern-is}
 use Rattle.float.proofs.SqrtClaims.{sqrt-steps}
@@ -53,14 +52,10 @@ abbrev pub digitsOf : ℕ → ℕ
 digitsOf p = p % 8388608 + 8388608
 
 pub normal-pattern : (p : ℕ) → 2 ^ 23 ≤ p → exponentOf p / 2 * 8388608 + nearRoot (digitsOf p * 2 ^ (23 + exponentOf p % 2)) ≡ rootPattern (unitsOf p)
-normal-pattern p l = go (leadOf p) (fieldOf p) (lead-is p)
-  where
-    go : (g x : ℕ) → ((p < 8388608) × (g ≡ p) × (x ≡ 1)) ⊎ ((8388608 ≤ p) × (g ≡ 8388608 + p % 8388608) × (x ≡ p / 8388608)) → exponentOf p / 2 * 8388608 + nearRoot (digitsOf p * 2 ^ (23 + exponentOf p % 2)) ≡ rootPattern (g * 2 ^ (x - 1))
-    go g x (inl h) = let z : ⊥ = omega arith in absurd z
-    go g x (inr h) =
-        let a : exponentOf p ≡ 126 + (x - 1) = omega arith in
-        let b : digitsOf p ≡ g = omega arith in
-        rw (a, b) (full-pattern g (x - 1) (omega arith) (omega arith))
+normal-pattern p l =
+    let a : exponentOf p ≡ 126 + (p / 8388608 - 1) = omega arith in
+    let b : digitsOf p ≡ 8388608 + p % 8388608 = omega arith in
+    rw (normal-units p l, a, b) (full-pattern (8388608 + p % 8388608) (p / 8388608 - 1) (omega arith) (omega arith))
 
 -- ---- the guess k settled by n + k - k * k, which is w where it is below 2 ^ 32
 exact : (n k w s : ℕ) → s ≤ 2 ^ 50 → w / 4294967296 ≡ 0 → (w + s) % 18446744073709551616 ≡ n + k → n + k ≡ s + w

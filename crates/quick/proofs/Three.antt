@@ -1,12 +1,12 @@
 -- A guess a little below the root is put right by one square. Assumes nothing.
-use mathlib.Core.Path.{_≡_, refl, sym, ap, _∙_, subst}
+use mathlib.Core.Path.{_≡_, sym, _∙_}
 use Prim.Native.Nat.{ℕ, zero, suc, _+_, _*_, _^_, _≤_, _<_}
-use native.Mathlib.Nat.{lt-of-not-le, mul-suc, suc-mul}
+use native.Mathlib.Nat.{mul-suc, suc-mul}
 use native.Mathlib.Numerals.{add-one}
 use native.Mathlib.Omega.{arith}
-use mathlib.Core.Bool.{Bool, true, false, not, cond}
+use mathlib.Core.Bool.{Bool, true, false, not}
 use lib.Dec.{T, leb, leb→le, nleb→lt}
-use Rattle.float.specs.Root.{Root, isqrt, nearer, nearRoot}
+use Rattle.float.specs.Root.{isqrt, nearRoot}
 use Rattle.float.proofs.Roots.{root-unique, isqrt-root, near-down, near-up}
 
 -- (p + 1) * (p + 1)

@@ -5,6 +5,7 @@ ghost use Prim.Native.Nat.{_+_, _*_, _%_, _^_, _≤_, _<_};
 ghost use Rattle.float.specs.Root.{nearRoot};
 ghost use Rattle.float.specs.Pattern.{unitsOf};
 ghost use Rattle.float.specs.Sqrt.{sqrtOf, rootPattern};
+use float::to_u64;
 
 // A root, or its pattern, that is right where `near` holds.
 struct Trial {
@@ -17,13 +18,6 @@ fn one(test: bool) -> u32
     ensures { λ r. ⌜ (r ≡ cond test 1 0) × (r ≤ 1) ⌝ }
 {
     if test { 1 } else { 0 }
-}
-
-// The same number, wider.
-fn wide(x: u32) -> u64
-    ensures { λ r. ⌜ r ≡ x ⌝ }
-{
-    x as u64
 }
 
 // Close to the root of the normal value with the pattern p: two of Newton's steps for the root's inverse, one for the root. Nothing is claimed of it.
@@ -52,7 +46,7 @@ fn settle(n: u64, k: u32) -> Trial
     requires { ⌜ (n < 2 ^ 48) × (k < 2 ^ 25) ⌝ }
     ensures { λ r. ⌜ (r .root ≤ k + 2) × (r .near ≡ true → r .root ≡ nearRoot n) ⌝ }
 {
-    let w = gap(n, wide(k));
+    let w = gap(n, to_u64(k));
     let t = (w % 0x1_0000_0000) as u32;
     let k2 = k + k;
     let k4 = k2 + k2;
@@ -78,7 +72,7 @@ fn attempt(p: u32, g: u32) -> Trial
     let m = p % 0x80_0000 + 0x80_0000;
     let base = e / 2 * 0x80_0000;
     let k = std::num::wrapping_sub_u32(g, base + 1) % 0x200_0000;
-    let s = settle(wide(doubled(m, e % 2 == 1)) * 0x80_0000, k);
+    let s = settle(to_u64(doubled(m, e % 2 == 1)) * 0x80_0000, k);
     Trial {
         root: base + s.root,
         near: s.near,

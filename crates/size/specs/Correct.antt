@@ -5,8 +5,8 @@ use mathlib.Core.Bool.{Bool, cond, not, _&&_, _||_}
 use lib.Ieee.{Float, binary32, ofBits, lt, le, eq, ne, neg}
 use Rattle.float.specs.Small.{finite, absOf, clampOf}
 use Rattle.float.specs.Sqrt.{sqrtOf}
-use Rattle.float.specs.Log.{log2Of}
-use Rattle.float.specs.Exp.{expOf}
+use Rattle.logexp.specs.Log.{log2Of}
+use Rattle.logexp.specs.Exp.{expOf}
 use Rattle.float.specs.Num.{_⊕_, _⊖_, _⊗_, _⊘_, f0, f1, f2}
 use Rattle.tables.specs.Set.{good}
 use Rattle.tables.specs.declared.Set.{Set}

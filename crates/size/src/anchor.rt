@@ -155,14 +155,14 @@ fn is_right_polarity(g: Geometry, c: f32, is_max: bool) -> bool
 fn place_of(g: Geometry, sigma: f32) -> f32
     ensures { λ r. ⌜ r ≡ placeOf g sigma ⌝ }
 {
-    float::log2(sigma / g.origin)
+    logexp::log2(sigma / g.origin)
 }
 
 // The sigma of a place.
 fn sigma_at(g: Geometry, t: f32) -> f32
     ensures { λ r. ⌜ r ≡ sigmaAt g t ⌝ }
 {
-    g.origin * float::exp(t * 0.6931472)
+    g.origin * logexp::exp(t * 0.6931472)
 }
 
 // Whether a place and its sigma are finite and in their closed ranges.

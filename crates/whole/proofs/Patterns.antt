@@ -3,7 +3,7 @@ use Prim.Native.Nat.{ℕ, _+_, _-_, _*_, _/_, _%_, _^_, _≤_, _<_}
 use native.Mathlib.Nat.{le-trans, lt-of-le-of-lt, lt-of-mul-lt-mul-right, eq-or-lt-of-le, mul-le-mul, mul-div-mul-right, mod-eq-of-lt}
 use native.Mathlib.Omega.{arith}
 use mathlib.Core.Bool.{Bool, true, false, not, false≢true}
-use mathlib.Core.Logic.{inl, inr}
+use mathlib.Core.Logic.{_⊎_, inl, inr}
 use mathlib.Core.Path.{_≡_, refl, sym, ap, _∙_, subst}
 use lib.Dec.{T, lit<, lit≤}
 use lib.Pow.{pow-add, pow-pos, pow-mono}
@@ -11,8 +11,8 @@ use lib.Ieee.{Float, nan, inf, fin, binary32, up, down, isNan, fits, ofBits, toB
 use lib.Ieee.Exact.{HasValue}
 use lib.Ieee.Positive.{den-pos}
 use borrow.Author.Tests.{lt-ltb, le-ltb}
-use Rattle.float.specs.Pattern.{unitsOf}
-use Rattle.float.proofs.Patterns.{units-mono, normal-units, plus-value, minus-value, Pattern, plus, minus, pattern}
+use Rattle.float.specs.Pattern.{leadOf, fieldOf, unitsOf}
+use Rattle.float.proofs.Patterns.{lead-is, lead-in, units-mono, plus-value, minus-value, Pattern, plus, minus, pattern}
 use Rattle.whole.specs.Nearest.{largest, saturated, nearestTo, nearestOf, nearestBits}
 use Rattle.whole.proofs.NearestLaws.{to-same, to-only, to-high, saturated-keeps, saturated-over}
 
@@ -97,20 +97,29 @@ high-bits b l h = rw (le-ltb 0x7f80_0000 b h) (saturated-over (nearestTo (unitsO
 
 -- between them: the significand, moved up
 abbrev pub shifted : ℕ → ℕ
-shifted b = (0x80_0000 + b % 0x80_0000) * 2 ^ (b / 2 ^ 23 - 126)
+shifted b = leadOf b * 2 ^ (fieldOf b - 126)
 
-shifted-le : (b : ℕ) → b < 0x4f80_0000 → shifted b ≤ 0xff_ffff * 2 ^ 32
-shifted-le b h =
-    let lead : 0x80_0000 + b % 0x80_0000 ≤ 0xff_ffff = omega arith in
-    let up : b / 2 ^ 23 - 126 ≤ 32 = omega arith in
-    mul-le-mul lead (pow-mono up)
+pub lead-under : (b : ℕ) → 0x3f00_0000 ≤ b → leadOf b ≤ 0xff_ffff
+lead-under b l = let k = lead-in b (omega arith) .1 in omega arith
+
+pub field-between : (b : ℕ) → 0x3f00_0000 ≤ b → b < 0x4f80_0000 → (126 ≤ fieldOf b) × (fieldOf b ≤ 158)
+field-between b l h = go (leadOf b) (fieldOf b) (lead-is b)
+  where
+    go : (g x : ℕ) → ((b < 8388608) × (g ≡ b) × (x ≡ 1)) ⊎ ((8388608 ≤ b) × (g ≡ 8388608 + b % 8388608) × (x ≡ b / 8388608)) → (126 ≤ x) × (x ≤ 158)
+    go g x (inl p) = let z : ⊥ = omega arith in absurd z
+    go g x (inr p) = (omega arith, omega arith)
+
+shifted-le : (b : ℕ) → 0x3f00_0000 ≤ b → b < 0x4f80_0000 → shifted b ≤ 0xff_ffff * 2 ^ 32
+shifted-le b l h =
+    let up : fieldOf b - 126 ≤ 32 = omega (arith, field-between b l h .1) in
+    mul-le-mul (lead-under b l) (pow-mono up)
 
 -- the shift loses nothing
-pub machine : (b w : ℕ) → b < 0x4f80_0000 → w ≡ 0x80_0000 + b % 0x80_0000 → (w * 2 ^ (b / 2 ^ 23 - 126)) % 2 ^ 64 ≡ shifted b
-machine b w h e = ap (λ (g : ℕ). (g * 2 ^ (b / 2 ^ 23 - 126)) % 2 ^ 64) e ∙ mod-eq-of-lt (lt-of-le-of-lt (shifted-le b h) (lit< tt))
+pub machine : (b g x : ℕ) → 0x3f00_0000 ≤ b → b < 0x4f80_0000 → g ≡ leadOf b → x ≡ fieldOf b → (g * 2 ^ (x - 126)) % 2 ^ 64 ≡ shifted b
+machine b g x l h e f = rw (e, f) (mod-eq-of-lt (lt-of-le-of-lt (shifted-le b l h) (lit< tt)))
 
-pub cut-lt : (b : ℕ) → b < 0x4f80_0000 → (shifted b + 2 ^ 23) / 2 ^ 24 < 2 ^ 32
-cut-lt b h = go (shifted b) (shifted-le b h)
+pub cut-lt : (b : ℕ) → 0x3f00_0000 ≤ b → b < 0x4f80_0000 → (shifted b + 2 ^ 23) / 2 ^ 24 < 2 ^ 32
+cut-lt b l h = go (shifted b) (shifted-le b l h)
   where
     go : (v : ℕ) → v ≤ 0xff_ffff * 2 ^ 32 → (v + 2 ^ 23) / 2 ^ 24 < 2 ^ 32
     go v k = omega arith
@@ -125,12 +134,12 @@ scaled g P H R p =
 
 pub mid-bits : (b : ℕ) → 0x3f00_0000 ≤ b → b < 0x4f80_0000 → (shifted b + 2 ^ 23) / 2 ^ 24 ≡ nearestBits b
 mid-bits b l h =
-    sym (saturated-keeps ((shifted b + 2 ^ 23) / 2 ^ 24) (let k = cut-lt b h in omega arith))
-    ∙ ap saturated (scaled (0x80_0000 + b % 0x80_0000) (2 ^ (b / 2 ^ 23 - 126)) (2 ^ 23) (2 ^ 125) (pow-pos 125) ∙ ap (λ (u : ℕ). nearestTo u (2 ^ 149)) units)
+    sym (saturated-keeps ((shifted b + 2 ^ 23) / 2 ^ 24) (let k = cut-lt b l h in omega arith))
+    ∙ ap saturated (scaled (leadOf b) (2 ^ (fieldOf b - 126)) (2 ^ 23) (2 ^ 125) (pow-pos 125) ∙ ap (λ (u : ℕ). nearestTo u (2 ^ 149)) units)
     ∙ sym (below b (omega arith))
   where
-    sum : b / 2 ^ 23 - 126 + 125 ≡ b / 2 ^ 23 - 1
-    sum = omega arith
+    sum : fieldOf b - 126 + 125 ≡ fieldOf b - 1
+    sum = omega (arith, field-between b l h .0)
 
-    units : (0x80_0000 + b % 0x80_0000) * (2 ^ (b / 2 ^ 23 - 126) * 2 ^ 125) ≡ unitsOf b
-    units = ap (λ (k : ℕ). (0x80_0000 + b % 0x80_0000) * k) (sym (pow-add 2 (b / 2 ^ 23 - 126) 125) ∙ ap (λ (j : ℕ). 2 ^ j) sum) ∙ sym (normal-units b (omega arith))
+    units : leadOf b * (2 ^ (fieldOf b - 126) * 2 ^ 125) ≡ unitsOf b
+    units = ap (λ (k : ℕ). leadOf b * k) (sym (pow-add 2 (fieldOf b - 126) 125) ∙ ap (λ (j : ℕ). 2 ^ j) sum)

@@ -2,13 +2,9 @@
 ghost use mathlib.Core.Path.{_≡_};
 ghost use Prim.Native.Nat.{_+_, _/_, _^_};
 ghost use Rattle.whole.specs.Nearest.{nearestOf, nearestBits};
-
-// The same number, wider.
-fn to_u64(m: u32) -> u64
-    ensures { λ r. ⌜ r ≡ m ⌝ }
-{
-    m as u64
-}
+use float::field;
+use float::lead;
+use float::to_u64;
 
 // The number nearest to v / 2^24, a half going to the larger.
 fn near(v: u64) -> u64
@@ -32,7 +28,7 @@ fn near_bits(b: u32) -> u32
     if 0x4f80_0000 <= b {
         return 0xffff_ffff;
     }
-    near(to_u64(0x80_0000 + b % 0x80_0000) << ((b >> 23) - 126)) as u32
+    near(to_u64(lead(b)) << (field(b) - 126)) as u32
 }
 
 // The u32 nearest to x: 0 for each value below 0 and for NaN, the largest for each value above it.

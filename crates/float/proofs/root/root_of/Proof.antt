@@ -1,9 +1,8 @@
 -- `float::root::root_of` meets its contract: `Trial` says what holds after each bit. The measure is the next bit's square. Assumes nothing.
 use mathlib.Core.Path.{_≡_, subst}
 use mathlib.Core.Logic.{⊎-elim}
-use Prim.Native.Nat.{ℕ, zero, suc, _+_, _*_, _/_, _^_, _≤_, _<_}
+use Prim.Native.Nat.{_^_, _≤_}
 use native.Mathlib.Omega.{arith}
-use borrow.Author.Needs.{needs}
 use Rattle.float.proofs.Trial.{Found, none-yet, bit-taken, bit-left, all-tried}
 use Rattle.float.proofs.root.root_of.Statement.{statement}
 use Rattle.float.proofs.root.root_of.Tie as tie
@@ -32,8 +31,8 @@ loop-again c =
     let s = c .before .before .loop in
     let some = c .before .loop-test .taken in
     ⊎-elim
-    (λ w. rw (w .1, w .2) (omega arith, omega arith, bit-taken n (s .rest) (s .root) (s .bit) (s .inv .2) some (w .0 .taken)))
-    (λ w. rw (w .1, w .2) (omega arith, omega arith, bit-left n (s .rest) (s .root) (s .bit) (s .inv .2) some (w .0 .left)))
+    (λ w. rw (w .1, w .2) (omega arith, omega arith, bit-taken n (s .rest) (s .root) (s .bit) (s .inv .2) some (omega (arith, w .0 .taken))))
+    (λ w. rw (w .1, w .2) (omega arith, omega arith, bit-left n (s .rest) (s .root) (s .bit) (s .inv .2) some (omega (arith, w .0 .left))))
     (c .if1 .came)
 
 returns : tie.Need-returns Inv-loop μ-loop

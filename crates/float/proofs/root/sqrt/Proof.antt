@@ -9,9 +9,8 @@ use lib.Ieee.Compare.{differs-from-itself}
 use lib.Ieee.Positive.{positive}
 use Rattle.float.specs.Sqrt.{sqrtOf}
 use Rattle.float.proofs.Bools.{says}
-use Rattle.float.proofs.Floats.{inf-is, nan-is, not-nan, is-inf}
+use Rattle.float.proofs.Floats.{inf-is, nan-is, not-nan, is-inf, is-positive}
 use Rattle.float.proofs.Patterns.{not-nan-pattern, positive-bits}
-use Rattle.float.proofs.Places.{is-positive}
 use Rattle.float.proofs.Scaled.{pattern-lt}
 use Rattle.float.proofs.SqrtClaims.{sqrt-nan, sqrt-zero, sqrt-infinity, sqrt-negative, sqrt-steps}
 use Rattle.float.proofs.root.sqrt.Statement.{statement}

@@ -24,14 +24,14 @@ wrapping-sub-u32-requires c κs = search needs
 doubled-requires : tie.Need-doubled-requires
 doubled-requires c κs = search needs
 
-wide-requires : tie.Need-wide-requires
-wide-requires c κs = search needs
+to-u64-requires : tie.Need-to-u64-requires
+to-u64-requires c κs = search needs
 
 mul-settle : tie.Need-mul-settle
 mul-settle c = search needs
 
 settle-requires : tie.Need-settle-requires
-settle-requires c κs = (omega (arith, c .before .doubled .ensures .1, c .wide .ensures), omega arith)
+settle-requires c κs = (omega (arith, c .before .doubled .ensures .1, c .to-u64 .ensures), omega arith)
 
 add-t8 : tie.Need-add-t8
 add-t8 c = search needs
@@ -39,7 +39,7 @@ add-t8 c = search needs
 returns : tie.Need-returns
 returns c =
     let s = c .before .before .before .before .before in
-    let n = c .before .before .wide .ensures ∙ c .before .before .before .doubled .ensures .0 in
+    let n = c .before .before .to-u64 .ensures ∙ c .before .before .before .doubled .ensures .0 in
     let p = s .args .p in
     (omega (arith, c .before .settle .ensures .0), λ near. rw (c .before .settle .ensures .1 near, n, doubled-is (digitsOf p) (exponentOf p)) (normal-pattern p (s .pre .0)))
 
@@ -53,7 +53,7 @@ attempt-spec =
     add-wrapping-sub-u32
     wrapping-sub-u32-requires
     doubled-requires
-    wide-requires
+    to-u64-requires
     mul-settle
     settle-requires
     add-t8

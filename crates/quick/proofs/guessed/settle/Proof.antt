@@ -5,8 +5,8 @@ use borrow.Author.Needs.{needs}
 use Rattle.quick.proofs.guessed.settle.Statement.{statement}
 use Rattle.quick.proofs.guessed.settle.Tie as tie
 
-wide-requires : tie.Need-wide-requires
-wide-requires c κs = search needs
+to-u64-requires : tie.Need-to-u64-requires
+to-u64-requires c κs = search needs
 
 gap-requires : tie.Need-gap-requires
 gap-requires c κs = search needs
@@ -46,7 +46,7 @@ returns c =
     let s = c .before .before .before .before in
     let a = c .before .one .ensures in
     let b = c .one2 .ensures in
-    let k = c .before .before .before .wide .ensures in
+    let k = c .before .before .before .to-u64 .ensures in
     let w = c .before .before .gap in
     (omega (arith, a .1, b .1), λ near. rw (a .0, b .0) (settled (s .args .n) (s .args .k) (w .result) (s .pre .0) (s .pre .1) (rw k at (w .ensures)) near))
 
@@ -54,7 +54,7 @@ pub settle-spec : {M : Type 1} → statement M
 settle-spec =
     tie.close
     (tie.spec
-    wide-requires
+    to-u64-requires
     gap-requires
     cast-t
     add-k2

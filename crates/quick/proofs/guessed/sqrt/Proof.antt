@@ -4,7 +4,6 @@ use mathlib.Core.Bool.{true, _&&_}
 use Prim.Native.Nat.{ℕ, _≤_, _<_}
 use native.Mathlib.Nat.{le-of-lt}
 use lib.Dec.{T, leb, ltb}
-use lib.Ieee.{binary32, toBits}
 use borrow.Author.Needs.{needs}
 use borrow.Author.Tests.{leb-true, ltb-true}
 use Rattle.float.proofs.Bools.{both}

@@ -1,0 +1,5 @@
+mod Steps
+mod Places
+mod LogValue
+pub mod LogClaims
+pub mod ExpClaims
