@@ -1,7 +1,7 @@
 -- `float::root::root_of` meets its contract: `Trial` says what holds after each bit. The measure is the next bit's square. Assumes nothing.
 use mathlib.Core.Path.{_≡_, subst}
 use mathlib.Core.Logic.{⊎-elim}
-use Prim.Native.Nat.{_^_, _≤_}
+use Prim.Native.Nat.{_^_, _≤_, _<_}
 use native.Mathlib.Omega.{arith}
 use Rattle.float.proofs.Trial.{Found, none-yet, bit-taken, bit-left, all-tried}
 use Rattle.float.proofs.root.root_of.Statement.{statement}
@@ -29,7 +29,7 @@ loop-again : tie.Need-loop-again Inv-loop μ-loop
 loop-again c =
     let n = c .before .before .before .args .n in
     let s = c .before .before .loop in
-    let some = c .before .loop-test .taken in
+    let some : 0 < s .bit = omega arith in
     ⊎-elim
     (λ w. rw (w .1, w .2) (omega arith, omega arith, bit-taken n (s .rest) (s .root) (s .bit) (s .inv .2) some (omega (arith, w .0 .taken))))
     (λ w. rw (w .1, w .2) (omega arith, omega arith, bit-left n (s .rest) (s .root) (s .bit) (s .inv .2) some (omega (arith, w .0 .left))))

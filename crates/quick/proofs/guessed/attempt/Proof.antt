@@ -1,6 +1,8 @@
 -- `quick::guessed::attempt` meets its contract. Assumes nothing.
-use mathlib.Core.Path.{_∙_}
+use mathlib.Core.Path.{ap, _∙_}
+use Prim.Native.Nat.{ℕ, _+_, _*_, _/_}
 use native.Mathlib.Omega.{arith}
+use Rattle.float.specs.Root.{nearRoot}
 use Rattle.quick.proofs.Normal.{exponentOf, digitsOf, doubled-is, normal-pattern}
 use borrow.Author.Needs.{needs}
 use Rattle.quick.proofs.guessed.attempt.Statement.{statement}
@@ -39,9 +41,14 @@ add-t8 c = search needs
 returns : tie.Need-returns
 returns c =
     let s = c .before .before .before .before .before in
+    let t = c .before .settle in
     let n = c .before .before .to-u64 .ensures ∙ c .before .before .before .doubled .ensures .0 in
-    let p = s .args .p in
-    (omega (arith, c .before .settle .ensures .0), λ near. rw (c .before .settle .ensures .1 near, n, doubled-is (digitsOf p) (exponentOf p)) (normal-pattern p (s .pre .0)))
+    let p = s .args .p in (
+      omega (arith, t .ensures .0),
+      λ near.
+          ap (λ (q : ℕ). exponentOf p / 2 * 8388608 + q) (t .ensures .1 near ∙ ap (λ (m : ℕ). nearRoot (m * 8388608)) n ∙ ap nearRoot (doubled-is (digitsOf p) (exponentOf p)))
+          ∙ normal-pattern p (s .pre .0),
+    )
 
 pub attempt-spec : {M : Type 1} → statement M
 attempt-spec =
