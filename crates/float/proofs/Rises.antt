@@ -199,7 +199,7 @@ less-sub p q r s h e = omega arith
 
 grow : (X dx Z dz Y dy : ℕ) → X * dz ≤ Z * dx → (X * dy - Y * dx) * (dz * dy) ≤ (Z * dy - Y * dz) * (dx * dy)
 grow X dx Z dz Y dy h =
-    let a : dz * dy * (X * dy) ≤ dx * dy * (Z * dy) = simp (mul-assoc, mul-comm, mul-left-comm) (simp (mul-assoc, mul-comm, mul-left-comm) at (mul-le-mul-right (dy * dy) h)) in
+    let a : dz * dy * (X * dy) ≤ dx * dy * (Z * dy) = simp (mul-assoc, mul-left-comm) (simp (mul-assoc, mul-comm) at (mul-le-mul-right (dy * dy) h)) in
     let b : dz * dy * (Y * dx) ≡ dx * dy * (Y * dz) = simp (mul-assoc, mul-comm, mul-left-comm) in
     le-trans (le-of-eq (mul-comm (X * dy - Y * dx) (dz * dy) ∙ mul-sub (dz * dy) (X * dy) (Y * dx)))
     (le-trans (less-sub _ _ _ _ a b)

@@ -100,10 +100,10 @@ module _ (m k : ℕ) (p : 0 < m) (h : m < 2 ^ 24) where
       omega arith
 
   -- the number that the machine's shifts, cut to their widths, give
-  pub machine : (w : ℕ) → w ≡ (m * 2 ^ zeros m) % 2 ^ 32 → (w * 2 ^ (23 + twice m k % 2)) % 2 ^ 64 ≡ under m k
-  machine w e =
+  pub machine : (w o : ℕ) → w ≡ (m * 2 ^ zeros m) % 2 ^ 32 → o ≡ twice m k % 2 → (w * 2 ^ (23 + o)) % 2 ^ 64 ≡ under m k
+  machine w o e f =
       let fine : w ≡ m * 2 ^ zeros m = e ∙ mod-eq-of-lt (lt-of-lt-of-le (wide-high m p h) (lit≤ tt)) in
-      rw fine (mod-eq-of-lt (lt-of-lt-of-le under-lt (lit≤ tt)))
+      rw (fine, f) (mod-eq-of-lt (lt-of-lt-of-le under-lt (lit≤ tt)))
 
   pub pattern-is : twice m k / 2 * 8388608 + nearRoot (under m k) ≡ rootPattern (m * 2 ^ k)
   unfolding rootPattern

@@ -9,7 +9,7 @@ pub fn lead(b: u32) -> u32
     if b < 0x80_0000 {
         b
     } else {
-        0x80_0000 + b % 0x80_0000
+        0x80_0000 + (b & 0x7f_ffff)
     }
 }
 

@@ -47,8 +47,8 @@ fn root_scaled(m: u32, k: u32) -> u32
 {
     let zeros = u32::leading_zeros(m) - 8;
     let e = 126 + k - zeros;
-    let q = near_root(to_u64(m << zeros) << (23 + e % 2));
-    e / 2 * 0x80_0000 + q as u32
+    let q = near_root(to_u64(m << zeros) << (23 + (e & 1)));
+    (e >> 1) * 0x80_0000 + q as u32
 }
 
 // The pattern of the root of the positive finite value with the pattern b.

@@ -2,6 +2,8 @@
 ghost use mathlib.Core.Path.{_≡_};
 ghost use Prim.Native.Nat.{_+_, _*_, _^_, _≤_, _<_};
 ghost use Rattle.logexp.specs.Exp.{fixedOf, stepOf, seriesOf, expUp, expDown, expOf};
+use float::lead;
+use float::to_u64;
 
 // ln 2 in units of 2^-30, rounded down.
 const LN_2: u64 = 744261117;
@@ -21,7 +23,7 @@ fn fixed(m: u32) -> u64
     ensures { λ r. ⌜ r ≡ fixedOf m ⌝ }
 {
     let k = m >> 23;
-    let g = (0x80_0000 + m % 0x80_0000) as u64;
+    let g = to_u64(lead(m));
     if k < 96 {
         0
     } else if k < 120 {

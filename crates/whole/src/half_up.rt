@@ -11,7 +11,7 @@ fn near(v: u64) -> u64
     ensures { λ r. ⌜ r ≡ (v + 2 ^ 23) / 2 ^ 24 ⌝ }
 {
     let cut = v >> 24;
-    let part = v % 0x100_0000;
+    let part = v & 0xff_ffff;
     if part < 0x80_0000 { cut } else { cut + 1 }
 }
 

@@ -27,7 +27,7 @@ const USE: &str = "use: compare own [SEED [TIMES]]
      compare run SEED TIMES PROGRAM [ARGUMENTS]
      compare archive SEED TIMES               (built with the feature `archive`; 2,000,000 corrections a time beside the families)
      compare probe SEED CASES_A_FUNCTION      (built with the feature `probe`)
-     compare steps SEED                       (built with the feature `probe`)
+     compare steps SEED [EVERY]               (built with the feature `probe`; every 256th pattern where EVERY is not given)
      compare one FAMILY SEED NUMBER [PLACE VALUE_BITS] [-- PROGRAM [ARGUMENTS]]
      compare widest SEED                      (the archive too where it is built in)
      compare store FILE [SEED]
@@ -56,7 +56,7 @@ fn main() -> ExitCode {
         #[cfg(feature = "probe")]
         Some("probe") if words.len() > 2 => probed::run(number(1, SEED), number(2, 1) as usize),
         #[cfg(feature = "probe")]
-        Some("steps") if words.len() > 1 => steps::run(number(1, SEED)),
+        Some("steps") if words.len() > 1 => steps::run(number(1, SEED), number(2, 256) as u32),
         Some("one") if words.len() > 3 => one(&words[1..]),
         Some("widest") if words.len() > 1 => widest(number(1, SEED)),
         Some("store") if words.len() > 1 => store(words[1], number(2, SEED)),

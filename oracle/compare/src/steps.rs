@@ -1,12 +1,10 @@
-//! log2 and exp of the archive against the step lists, bit for bit.
+//! log2 and exp of the archive against the step lists, and the guessed root against the machine's own, bit for bit.
 
 use crate::own::told;
 use judge::steps;
 use std::time::Instant;
-use subject::probe::float;
+use subject::probe::{float, probe_quick};
 
-/// Patterns from one to the next of the walk over all of them.
-const STRIDE: u32 = 1 << 8;
 /// Patterns on each side of an edge.
 const NEAR: u32 = 1 << 11;
 
@@ -24,16 +22,16 @@ fn turns() -> impl Iterator<Item = u32> {
         .map(f32::to_bits)
 }
 
-/// Every pattern of the walk, from `first` on, and all near an edge.
-fn patterns(first: u32) -> impl Iterator<Item = u32> {
-    let walk = (0..=u32::MAX / STRIDE).map(move |step| STRIDE * step + first % STRIDE);
+/// Each `every`-th pattern, from `first` on, and all near an edge.
+fn patterns(first: u32, every: u32) -> impl Iterator<Item = u32> {
+    let walk = (0..=u32::MAX / every).map(move |step| (every * step).wrapping_add(first % every));
     let near =
         |edge: u32| (0..=2 * NEAR).map(move |place| edge.wrapping_sub(NEAR).wrapping_add(place));
     walk.chain(exponents().chain(turns()).flat_map(near))
 }
 
 /// One function over the patterns; any NaN equals any other.
-fn same(name: &str, first: u32, ours: fn(f32) -> f32, sound: fn(f32) -> f32) -> bool {
+fn same(name: &str, patterns: impl Iterator<Item = u32>, ours: fn(f32) -> f32, sound: fn(f32) -> f32) -> bool {
     let begun = Instant::now();
     let plain = |value: f32| {
         if value.is_nan() {
@@ -43,7 +41,7 @@ fn same(name: &str, first: u32, ours: fn(f32) -> f32, sound: fn(f32) -> f32) -> 
         }
     };
     let (mut count, mut differing, mut fault) = (0, 0, None);
-    for bits in patterns(first) {
+    for bits in patterns {
         let value = f32::from_bits(bits);
         let (given, due) = (plain(ours(value)), plain(sound(value)));
         count += 1;
@@ -57,8 +55,10 @@ fn same(name: &str, first: u32, ours: fn(f32) -> f32, sound: fn(f32) -> f32) -> 
     told(&format!("steps-{name}"), fault, &seen)
 }
 
-/// log2 and exp over every 256th pattern and all near an edge; the seed says where the walk begins.
-pub fn run(seed: u64) -> bool {
-    let first = seed as u32;
-    same("log2", first, float::log2, steps::log2) & same("exp", first, float::exp, steps::exp)
+/// log2, exp and the guessed root over each `every`-th pattern and all near an edge; the seed says where the walk begins.
+pub fn run(seed: u64, every: u32) -> bool {
+    let walk = || patterns(seed as u32, every);
+    same("log2", walk(), float::log2, steps::log2)
+        & same("exp", walk(), float::exp, steps::exp)
+        & same("quick", walk(), probe_quick, f32::sqrt)
 }

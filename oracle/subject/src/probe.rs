@@ -9,6 +9,7 @@ pub use uramsheg::float;
 /// A slice is passed as its start and its length.
 mod raw {
     unsafe extern "C" {
+        pub safe fn probe_quick(x: f32) -> f32;
         pub safe fn probe_horner(a: f32, b: f32, c: f32, d: f32, s: f32) -> f32;
         pub safe fn probe_extreme(
             a: f32,
@@ -121,7 +122,7 @@ mod raw {
     }
 }
 
-pub use raw::{probe_extreme, probe_gaussian, probe_horner, probe_kernel, probe_owns};
+pub use raw::{probe_extreme, probe_gaussian, probe_horner, probe_kernel, probe_owns, probe_quick};
 
 /// The i-th coefficient of the cubic in log2 of sigma, or of the one in sigma.
 pub fn probe_cubic(set: &[u8], geometry: bool, samples: [f32; 4], i: usize) -> f32 {
