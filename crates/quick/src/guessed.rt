@@ -20,17 +20,17 @@ fn one(test: bool) -> u32
     if test { 1 } else { 0 }
 }
 
-// Close to the root of the normal value with the pattern p: two of Newton's steps for the root's inverse, one for the root. Nothing is claimed of it.
+// Close to the root of the normal value with the pattern p: one of Newton's steps for the root's inverse y, then three terms of the root of 1 - d, where d is
+// what x * y * y lacks. Nothing is claimed of it.
 fn guess(p: u32) -> f32
     requires { ⌜ p < 0x7f80_0000 ⌝ }
 {
     let x = f32::from_bits(p);
-    let h = 0.5 * x;
-    let y0 = f32::from_bits(0x5f37_6908 - p / 2);
-    let y1 = y0 * (1.5008789 - h * y0 * y0);
-    let y = y1 * (1.5000006 - h * y1 * y1);
+    let y0 = f32::from_bits(0x5f1f_fff9 - p / 2);
+    let y = 0.70395225 * y0 * (2.3892446 - x * y0 * y0);
     let r = x * y;
-    r + (x - r * r) * (0.5 * y)
+    let d = 1.0 - r * y;
+    r + r * d * (0.5 + 0.375 * d)
 }
 
 // n + k less the square of k, cut to the width.
