@@ -121,7 +121,7 @@ near-high n h l = nearer-high n (isqrt n) (root-below n (isqrt n) (2 ^ 24) (isqr
 odd-square : (s : ℕ) → (2 * s + 1) * (2 * s + 1) ≡ 4 * (s * s) + 4 * s + 1
 odd-square s = simp (mul-add, add-mul, mul-one, one-mul) (rw four (omega arith))
 
-suc-square : (s : ℕ) → suc s * suc s ≡ s * s + 2 * s + 1
+pub suc-square : (s : ℕ) → suc s * suc s ≡ s * s + 2 * s + 1
 suc-square s = simp (suc-mul, mul-suc) (omega arith)
 
 pub record Nearest (n q : ℕ) : Type 0 where

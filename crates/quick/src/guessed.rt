@@ -20,8 +20,8 @@ fn one(test: bool) -> u32
     if test { 1 } else { 0 }
 }
 
-// Close to the root of the normal value with the pattern p: one of Newton's steps for the root's inverse y, then three terms of the root of 1 - d, where d is
-// what x * y * y lacks. Nothing is claimed of it.
+// Close to the root of the normal value x with the pattern p: one of Newton's steps for the root's inverse y, then three terms of the inverse root of 1 - d,
+// which is x * y * y. Nothing is claimed of it.
 fn guess(p: u32) -> f32
     requires { ⌜ p < 0x7f80_0000 ⌝ }
 {
@@ -63,7 +63,7 @@ fn doubled(m: u32, odd: bool) -> u32
     if odd { m + m } else { m }
 }
 
-// The pattern of the root of the normal value with the pattern p, from a guess with the pattern g.
+// The pattern of the root of the normal value with the pattern p, from a guess with the pattern g, which may be one off either way.
 fn attempt(p: u32, g: u32) -> Trial
     requires { ⌜ (2 ^ 23 ≤ p) × (p < 0x7f80_0000) ⌝ }
     ensures { λ r. ⌜ (r .root < 0x7f80_0000) × (r .near ≡ true → r .root ≡ rootPattern (unitsOf p)) ⌝ }

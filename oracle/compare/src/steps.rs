@@ -60,5 +60,5 @@ pub fn run(seed: u64, every: u32) -> bool {
     let walk = || patterns(seed as u32, every);
     same("log2", walk(), float::log2, steps::log2)
         & same("exp", walk(), float::exp, steps::exp)
-        & same("quick", walk(), probe_quick, f32::sqrt)
+        & same("quick", walk(), |value| probe_quick(value), f32::sqrt)
 }
