@@ -19,7 +19,8 @@
  * and the last byte 0. Detection writes no bad record.
  *
  * A sized record (52 bytes, little-endian): the spot record; 40 corrected sigma f32 (+0.0 where the spot has no size); 44 home row u16, 46 home col u16
- * (the pixel nearest to y and x, a half to the larger); 48 accepted (1 where there is a size, else 0); 49 50 51 zero
+ * (the pixel nearest to y and x, a half to the larger); 48 accepted (1 where there is a size, else 0); 49 cause (0 where there is a size, else why there is
+ * none: 1 or 2, see URAMSHEG_NO_SIZE_POLARITY and URAMSHEG_NO_SIZE_RANGE); 50 51 zero
  * Detection moves a spot by at most 0.6 of a pixel each way, so that its home pixel is its own or one of the eight around it.
  *
  * A worked case, map M: under the set that examples/detect.c builds, 9 rows by 10 cols, all 0 but pixel (4,4), 0.25 in level 0 and -0.25 in level 1,
@@ -50,8 +51,14 @@ enum {
     URAMSHEG_REFUSED_SET = 4,       /* the set record is not 528 bytes long or not good */
     URAMSHEG_REFUSED_RECORDS = 5,   /* the list is no whole number of records (*value is how many are whole), or holds a bad one (*value is its index) */
     URAMSHEG_REFUSED_ROOM = 6,      /* the output, or one of the four, is shorter than needed */
-    URAMSHEG_REFUSED_NO_SIZE = 7,   /* the spot has no size */
+    URAMSHEG_REFUSED_NO_SIZE = 7,   /* the spot has no size; *cause says why */
     URAMSHEG_REFUSED_THRESHOLDS = 8 /* a threshold is not a number: one of the five is a NaN, as a blank in a sheet reads */
+};
+
+/* Why a spot has no size: of the two, in this order, the first that holds. It stands in byte 49 of a sized record, and in *cause beside 7. */
+enum {
+    URAMSHEG_NO_SIZE_POLARITY = 1, /* at the spot's sigma its curve is not one of its polarity: bent the other way, too weakly, or not finite */
+    URAMSHEG_NO_SIZE_RANGE = 2     /* it is, but the size that it leads to is beyond the fitted range, or not finite */
 };
 
 /* Blurs a raw map into its four levels, each at the start of its own buffer.
@@ -90,10 +97,11 @@ uint32_t uramsheg_detect(const uint8_t *set, size_t set_length,
 uint32_t uramsheg_join(const uint8_t *set, size_t set_length, size_t rows, size_t cols,
                        const uint8_t *list, size_t list_length, uint8_t *out, size_t out_length, uint64_t *value);
 
-/* The corrected sigma of a spot with these centre samples, this sigma and this polarity, in *corrected.
- * Refused (checked in the order 4, 7), it neither reads nor writes *corrected, which may be unset. */
+/* The corrected sigma of a spot with these centre samples, this sigma and this polarity, in *corrected, and 0 in *cause.
+ * Refused (checked in the order 4, 7), it neither reads nor writes *corrected, which may be unset; *cause is 0 beside 4, and beside 7 why the spot has no
+ * size: URAMSHEG_NO_SIZE_POLARITY or URAMSHEG_NO_SIZE_RANGE. */
 uint32_t uramsheg_correct(const uint8_t *set, size_t set_length, float sample0, float sample1, float sample2, float sample3,
-                          float sigma, bool is_max, float *corrected);
+                          float sigma, bool is_max, float *corrected, uint64_t *cause);
 
 /* How many octaves a map of these sides has, by its shortest side: under 10 none; to 64, 1; to 128, 2; to 256, 3; to 512, 4; to 1024, 5; above, 6. */
 uint32_t uramsheg_octave_count(size_t rows, size_t cols);

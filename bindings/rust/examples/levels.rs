@@ -50,9 +50,14 @@ fn main() -> Result<(), Box<dyn std::error::Error>> {
     for sized in uramsheg::sized_spots(&set, THRESHOLDS, map)? {
         let spot = sized.spot;
         let kind = if spot.is_max { "maximum" } else { "minimum" };
+        let why = || {
+            sized
+                .missing
+                .map_or("no size".into(), |why| why.to_string())
+        };
         let size = sized
             .size
-            .map_or("no size".into(), |size| format!("size {size:.2}"));
+            .map_or_else(why, |size| format!("size {size:.2}"));
         println!(
             "{kind} at x {:.2}, y {:.2}, home pixel ({}, {}): sigma {:.2}, peak {:.1}, {size}",
             spot.x, spot.y, sized.row, sized.col, spot.sigma, spot.peak

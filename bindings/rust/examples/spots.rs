@@ -41,9 +41,12 @@ fn main() -> Result<(), Box<dyn std::error::Error>> {
     )? {
         let spot = sized.spot;
         let kind = if spot.is_max { "maximum" } else { "minimum" };
-        let size = sized
-            .size
-            .map_or("no size".into(), |size| format!("size {size}"));
+        let why = || {
+            sized
+                .missing
+                .map_or("no size".into(), |why| why.to_string())
+        };
+        let size = sized.size.map_or_else(why, |size| format!("size {size}"));
         println!(
             "{kind} at x {}, y {}, home pixel ({}, {}): sigma {}, peak {}, {size}",
             spot.x, spot.y, sized.row, sized.col, spot.sigma, spot.peak

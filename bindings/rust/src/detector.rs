@@ -66,6 +66,7 @@ mod raw {
             sigma: f32,
             is_max: bool,
             corrected: *mut f32,
+            cause: *mut u64,
         ) -> u32;
         pub safe fn uramsheg_octave_count(rows: usize, cols: usize) -> u32;
         pub fn uramsheg_downsample(
@@ -116,12 +117,12 @@ pub struct Map<'a> {
     pub levels: [&'a [f32]; 4],
 }
 
-/// An answer's number as a result.
-fn done<T>(number: u32, index: usize, answer: T) -> Result<T, Refusal> {
+/// An answer's number, with the value beside it, as a result.
+fn done<T>(number: u32, value: usize, answer: T) -> Result<T, Refusal> {
     if number == 0 {
         return Ok(answer);
     }
-    let refusal = Refusal::from_number(number, index);
+    let refusal = Refusal::from_number(number, value);
     Err(refusal.expect("libalp_c.a and this crate are of different versions: build both from one"))
 }
 
@@ -225,11 +226,11 @@ pub fn join(
     done(number, value as usize, value as usize)
 }
 
-/// The corrected sigma of a spot with these centre samples, this sigma and this polarity.
+/// The corrected sigma of a spot with these centre samples, this sigma and this polarity; where it has none, the refusal says why.
 pub fn correct(set: &[u8], samples: [f32; 4], sigma: f32, is_max: bool) -> Result<f32, Refusal> {
     let [s0, s1, s2, s3] = samples;
-    let mut corrected = 0.0;
-    // SAFETY: the pointer goes with the slice's own length, and `corrected` overlaps nothing.
+    let (mut corrected, mut cause) = (0.0, 0);
+    // SAFETY: the pointer goes with the slice's own length, and neither `corrected` nor `cause` overlaps another.
     let number = unsafe {
         raw::uramsheg_correct(
             set.as_ptr(),
@@ -241,9 +242,10 @@ pub fn correct(set: &[u8], samples: [f32; 4], sigma: f32, is_max: bool) -> Resul
             sigma,
             is_max,
             &mut corrected,
+            &mut cause,
         )
     };
-    done(number, 0, corrected)
+    done(number, cause as usize, corrected)
 }
 
 /// How many octaves a map of these sides has, 0 to 6.

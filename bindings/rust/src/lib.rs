@@ -5,6 +5,7 @@
 mod detector;
 #[cfg(feature = "float")]
 pub mod float;
+mod missing;
 mod refusal;
 mod spot;
 
@@ -13,5 +14,6 @@ pub use detector::{
     Map, Thresholds, check_set, correct, detect, downsample, four_levels, join, levels,
     octave_count, sized_spots, spots,
 };
+pub use missing::Missing;
 pub use refusal::Refusal;
 pub use spot::{SIZED_BYTES, SPOT_BYTES, SizedSpot, Spot};

@@ -1,5 +1,6 @@
 //! Why a call was refused, in words.
 
+use crate::Missing;
 use std::fmt;
 
 /// Why a call was refused. Of the call's checks, in its order, the first that holds is answered: detection checks 1, 2, 3, 8, 4; the join 1, 4, 5 for the
@@ -18,8 +19,8 @@ pub enum Refusal {
     Records { index: usize },
     /// 6: the output, or one of the four, is shorter than needed.
     Room,
-    /// 7: the spot has no size.
-    NoSize,
+    /// 7: the spot has no size, and why.
+    NoSize(Missing),
     /// 8: a threshold is not a number. `nan` tells which of peak, sigma, ratio, low and high are NaN.
     Thresholds { nan: [bool; 5] },
 }
@@ -28,8 +29,8 @@ pub enum Refusal {
 const NAMES: [&str; 5] = ["peak", "sigma", "ratio", "low", "high"];
 
 impl Refusal {
-    /// The refusal with a number and the value that goes with it, as the C functions answer them; None for a number that is none of theirs. Which
-    /// threshold is NaN they do not say: `detect` sees it by those it was given.
+    /// The refusal with a number and the value that goes with it, as the C functions answer them; None for a number, or a cause beside 7, that is none of
+    /// theirs. Which threshold is NaN they do not say: `detect` sees it by those it was given.
     pub fn from_number(number: u32, value: usize) -> Option<Refusal> {
         Some(match number {
             1 => Refusal::Size,
@@ -38,7 +39,7 @@ impl Refusal {
             4 => Refusal::Set,
             5 => Refusal::Records { index: value },
             6 => Refusal::Room,
-            7 => Refusal::NoSize,
+            7 => Refusal::NoSize(Missing::from_number(value)?),
             8 => Refusal::Thresholds { nan: [false; 5] },
             _ => return None,
         })
@@ -52,7 +53,7 @@ impl Refusal {
             Refusal::Set => 4,
             Refusal::Records { .. } => 5,
             Refusal::Room => 6,
-            Refusal::NoSize => 7,
+            Refusal::NoSize(_) => 7,
             Refusal::Thresholds { .. } => 8,
         }
     }
@@ -74,7 +75,7 @@ impl fmt::Display for Refusal {
                 "the list is not a whole number of 40-byte records, or its record {index} is bad for this map"
             ),
             Refusal::Room => write!(f, "the output is too short: lend a longer one"),
-            Refusal::NoSize => write!(f, "this spot has no size"),
+            Refusal::NoSize(why) => why.fmt(f),
             Refusal::Thresholds { nan } => {
                 let named = NAMES.iter().zip(nan).filter(|named| *named.1);
                 let names: Vec<&str> = named.map(|named| *named.0).collect();

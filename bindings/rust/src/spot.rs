@@ -1,5 +1,7 @@
 //! Spot records and sized records as values.
 
+use crate::Missing;
+
 /// The bytes of a spot record.
 pub const SPOT_BYTES: usize = 40;
 /// The bytes of a sized record.
@@ -27,6 +29,8 @@ pub struct SizedSpot {
     pub spot: Spot,
     /// The corrected sigma; None where the spot has no size.
     pub size: Option<f32>,
+    /// Why the spot has no size; None where it has one, and in records from before causes were given.
+    pub missing: Option<Missing>,
     /// The home pixel: the row nearest to y and the col nearest to x, a half to the larger.
     pub row: u16,
     pub col: u16,
@@ -67,6 +71,7 @@ impl SizedSpot {
         SizedSpot {
             spot: Spot::from_bytes(record),
             size: (record[48] == 1).then(|| float(record, 40)),
+            missing: Missing::from_number(record[49].into()),
             row: u16::from_le_bytes([record[44], record[45]]),
             col: u16::from_le_bytes([record[46], record[47]]),
         }

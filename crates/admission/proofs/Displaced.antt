@@ -7,7 +7,7 @@ use mathlib.Core.Bool.{Bool, true, false, false≢true}
 use lib.IntN.{ℤ, pos, negsuc}
 use lib.Dec.{T}
 use lib.Count.{trailingZeros}
-use lib.Ieee.{Float, nan, inf, fin, binary32, up, down, round, sum, add, lt, le, eq, ofInt, ofBits, ofFields, units, odd, size, span, climb}
+use lib.Ieee.{Float, nan, inf, fin, binary32, up, down, round, sum, add, lt, le, ofInt, ofBits, ofFields, odd}
 use lib.Ieee.Exact.{HasValue}
 use lib.Ieee.Bits.{is-true}
 use lib.Ieee.Fits.{down-pos}
@@ -16,6 +16,8 @@ use lib.Ieee.Order.{round-mono}
 use borrow.Author.Tests.{ltb-false, le-ltb}
 use Rattle.float.specs.Num.{_⊕_, f0, f0·6}
 use Rattle.float.specs.Small.{finite, absOf}
+use Rattle.float.proofs.Finite.{value-finite, between-finite}
+use Rattle.float.proofs.Floats.{zero-rounds}
 use Rattle.refine.specs.Refine.{nearby}
 use Rattle.refine.proofs.RefineLaws.{nearby-bounds}
 use Rattle.record.specs.Readable.{within, onSide}
@@ -66,31 +68,12 @@ displaced-rounds c (fin s m e) (fin t n d) v h =
 
 -- ---- what rounds a fraction between two whole numbers is finite and on the side
 
-zero-is : f0 ≡ round binary32 false 0 1
-unfolding ofBits ofFields odd trailingZeros round size span climb units
-zero-is = refl
-
-between-finite : (x y : Float) → T (le f0 x) → T (le x y) → finite y ≡ true → finite x ≡ true
-unfolding le lt eq finite ofBits
-between-finite nan y a b f = absurd a
-between-finite (inf false) nan a b f = absurd b
-between-finite (inf false) (inf t) a b f = f
-between-finite (inf false) (fin t n e) a b f = absurd b
-between-finite (inf true) y a b f = absurd a
-between-finite (fin s m e) y a b f = refl
-
-value-finite : (x : Float) (s : Bool) (a c : ℕ) → HasValue x s a c → finite x ≡ true
-unfolding finite
-value-finite nan s a c v = absurd v
-value-finite (inf t) s a c v = absurd v
-value-finite (fin t m e) s a c v = refl
-
 rounds-on-side : (n c : ℕ) (x : Float) → c + 2 < n → n ≤ 16777216 → Rounds c (c + 2) x → (finite x ≡ true) × (onSide n x ≡ true)
 unfolding onSide within ofInt
 rounds-on-side n c x inside few r =
     let last : Float = round binary32 false (n - 1) 1 in
     let most : (c + 2) * r .whole ≤ (n - 1) * r .whole = mul-le-mul-right (r .whole) (omega arith) in
-    let low : T (le f0 x) = subst (λ (z : Float). T (le f0 z)) (sym (r .is)) (rw zero-is (round-mono binary32 0 1 (r .part) (r .whole) (omega arith) (r .some) (omega arith))) in
+    let low : T (le f0 x) = subst (λ (z : Float). T (le f0 z)) (sym (r .is)) (rw zero-rounds (round-mono binary32 0 1 (r .part) (r .whole) (omega arith) (r .some) (omega arith))) in
     let high : T (le x last) = subst (λ (z : Float). T (le z last)) (sym (r .is)) (round-mono binary32 (r .part) (r .whole) (n - 1) 1 (r .some) (omega arith) (omega arith)) in
     let end = value-finite last false (n - 1) 1 (round-whole binary32 false (n - 1) (omega arith)) in
     (between-finite x last low high end, rw (is-true (le f0 x) low, is-true (le x last) high))

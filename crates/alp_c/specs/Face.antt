@@ -72,20 +72,26 @@ unfoldable pub sizeAfter : Correction → Float → Float
 sizeAfter (size.Size sigma) before = sigma
 sizeAfter (size.Refused w) before = before
 
--- what a call of the correction leaves: its number, and the lent float
+-- 0 beside a size, else the value that goes with the refusal: of 7 its cause
+unfoldable pub sizeCause : Correction → ℕ
+sizeCause (size.Size sigma) = 0
+sizeCause (size.Refused w) = value w
+
+-- what a call of the correction leaves: its number, its cause, and the lent float
 pub record SizeLeft : Type 0 where
   pub number : ℕ
+  pub cause : ℕ
   pub corrected : Float
 
--- these two, given one by one
-abbrev pub sizeLeft : ℕ → Float → SizeLeft
-sizeLeft n x = record { number = n; corrected = x }
+-- these three, given one by one
+abbrev pub sizeLeft : ℕ → ℕ → Float → SizeLeft
+sizeLeft n v x = record { number = n; cause = v; corrected = x }
 
 -- the correction under the set that the record holds
 unfoldable pub correctFace : List ℕ → List Float → Float → Bool → Float → SizeLeft
 correctFace set samples sigma isMax before =
     let answer = correctOf (readSetOf set .set) samples sigma isMax in
-    sizeLeft (sizeNumber answer) (sizeAfter answer before)
+    sizeLeft (sizeNumber answer) (sizeCause answer) (sizeAfter answer before)
 
 -- ---- the join
 

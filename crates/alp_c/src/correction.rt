@@ -4,8 +4,8 @@ ghost use mathlib.Core.List.{[], _∷_};
 ghost use Rattle.alp_c.specs.Face.{sizeLeft, correctFace};
 use size::Correction;
 
-// Corrects the sigma of a spot with these samples under the set in the record set. Answers 0, with the corrected sigma in corrected, or the refusal's
-// number, with corrected neither read nor written.
+// Corrects the sigma of a spot with these samples under the set in the record set. Answers 0, with the corrected sigma in corrected and 0 in cause, or the
+// refusal's number, with the value that goes with it in cause and corrected neither read nor written.
 #[no_mangle]
 pub extern "C" fn uramsheg_correct(
     set: &[u8],
@@ -16,8 +16,9 @@ pub extern "C" fn uramsheg_correct(
     sigma: f32,
     is_max: bool,
     corrected: &mut f32,
+    cause: &mut u64,
 ) -> u32
-    ensures { λ r. ⌜ sizeLeft r (now (corrected .exit))
+    ensures { λ r. ⌜ sizeLeft r (now (cause .exit)) (now (corrected .exit))
         ≡ correctFace (now (set .entry)) (s0 ∷ s1 ∷ s2 ∷ s3 ∷ []) sigma «is_max» (now (corrected .entry)) ⌝ }
 {
     let read = tables::read_set(set);
@@ -26,8 +27,12 @@ pub extern "C" fn uramsheg_correct(
     match answer {
         Correction::Size(size) => {
             *corrected = size;
+            *cause = 0;
             0
         }
-        Correction::Refused(why) => tables::refusals::number_of(why),
+        Correction::Refused(why) => {
+            *cause = tables::refusals::value_of(why);
+            tables::refusals::number_of(why)
+        }
     }
 }

@@ -1,18 +1,22 @@
 -- A worked case, and one for each function that has them: arguments and answers by bit patterns. Definitions only.
-use Prim.Native.Nat.{ℕ}
+use Prim.Native.Nat.{ℕ, suc}
 use mathlib.Core.List.{List, [], _∷_}
 use mathlib.Core.Bool.{Bool}
 use lib.Ieee.{Float, binary32, ofBits, toBits}
 use Rattle.float.specs.Sqrt.{sqrtOf}
 use Rattle.logexp.specs.Log.{log2Of}
 use Rattle.whole.specs.Nearest.{nearestOf}
-use Rattle.tables.specs.Refusal.{number}
+use Rattle.tables.specs.Refusal.{number, value}
 use Rattle.tables.specs.SetT.{values}
 use Rattle.tables.specs.declared.Set.{Set}
 use Rattle.fit.specs.Cubic.{hornerOf}
 use Rattle.fit.specs.Band.{extremeOf}
 use Rattle.fit.specs.Envelope.{envelopeOf}
 use Rattle.fit.specs.declared.Envelope.{Envelope}
+use Rattle.profile.specs.Profile.{statisticOf}
+use Rattle.profile.specs.Causes.{placeOf}
+use Rattle.profile.specs.declared.Statistic.{Statistic}
+use Rattle.profile.specs.declared.Statistic.the-variants.{Value, Absent}
 use Rattle.size.specs.Correct.{correctOf}
 use Rattle.size.specs.declared.Correction.{Correction}
 use Rattle.size.specs.declared.Correction.the-variants.{Size, Refused}
@@ -55,10 +59,19 @@ ofEnvelope e = toBits binary32 (e .emin) ∷ toBits binary32 (e .emax) ∷ toBit
 unfoldable pub envelopeCase : List Float → List Float → List ℕ → List ℕ → Case
 envelopeCase t g l due = record { given = ofEnvelope (envelopeOf t g (values l)); due = due }
 
--- 0 and the pattern of a size; the number of a refusal
+-- 0 and the pattern of a statistic; the number of its cause where there is none
+unfoldable pub ofStatistic : Statistic → List ℕ
+ofStatistic (Value x) = 0 ∷ toBits binary32 x ∷ []
+ofStatistic (Absent why) = suc (placeOf why) ∷ []
+
+-- the profile statistic of four samples under the sigmas
+unfoldable pub statisticCase : List Float → List ℕ → List ℕ → Case
+statisticCase sigmas l due = record { given = ofStatistic (statisticOf sigmas (values l)); due = due }
+
+-- 0 and the pattern of a size; the number of a refusal and the value beside it
 unfoldable pub ofCorrection : Correction → List ℕ
 ofCorrection (Size sigma) = 0 ∷ toBits binary32 sigma ∷ []
-ofCorrection (Refused refusal) = number refusal ∷ []
+ofCorrection (Refused refusal) = number refusal ∷ value refusal ∷ []
 
 -- a spot with these samples and this sigma, corrected under a set
 unfoldable pub correctionCase : Set → List ℕ → ℕ → Bool → List ℕ → Case

@@ -55,6 +55,14 @@ bytesM =
     ∷ 0x00 ∷ 0x00 ∷ 0x80 ∷ 0xbf ∷ 0x00 ∷ 0x00 ∷ 0x80 ∷ 0x40 ∷ 0x00 ∷ 0x00 ∷ 0x00 ∷ 0x00 ∷ 0x00 ∷ 0x00 ∷ 0x00 ∷ 0x00
     ∷ 0x2c ∷ 0x00 ∷ 0x00 ∷ 0x00 ∷ 0x00 ∷ 0x01 ∷ 0x01 ∷ 0x00 ∷ []
 
+-- the same as a minimum
+unfoldable pub minimumM : List ℕ
+minimumM = set bytesM 38 0x00
+
+-- the same with a sigma of 0.25
+unfoldable pub smallM : List ℕ
+smallM = set (set bytesM 10 0x80) 11 0x3e
+
 -- the bytes of the list that is due for map M with this level 0
 unfoldable pub mapCase : List Float → List ℕ → Case
 mapCase l0 bytes = record { given = bytesOf (dues.due (mapM l0)); due = bytes }

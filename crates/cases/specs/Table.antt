@@ -3,9 +3,9 @@ use mathlib.Core.List.{List, [], _∷_, _++_}
 use mathlib.Core.Bool.{true, false}
 use Rattle.tables.specs.Set.{blank}
 use Rattle.tables.specs.SetT.{sigmasT, cubicT, setT}
-use Rattle.cases.specs.Case.{Case, rootCase, logCase, nearestCase, valueCase, extremeCase, countCase, envelopeCase, correctionCase}
+use Rattle.cases.specs.Case.{Case, rootCase, logCase, nearestCase, valueCase, extremeCase, countCase, envelopeCase, statisticCase, correctionCase}
 use Rattle.cases.specs.Raw.{radiusCase, radiiCase, tapCase, levelCase, wholeCase, rawCase}
-use Rattle.cases.specs.MapM.{put, levelM, bytesM, mapCase, sizedCase, thresholdsOf, thresholdsM, checksCase}
+use Rattle.cases.specs.MapM.{put, levelM, bytesM, minimumM, smallM, mapCase, sizedCase, thresholdsOf, thresholdsM, checksCase}
 
 -- the worked cases in document 01's order; after P12 the other cases of the correction, then those of document 02's requests
 unfoldable pub table : List Case
@@ -39,14 +39,14 @@ table =
     ∷ mapCase (put 2 4 0x7fc00000 levelM) []
     -- P11 with (2,2) NaN: as P9.
     ∷ mapCase (put 2 2 0x7fc00000 levelM) bytesM
-    -- P12 correcting P9's spot, of samples (-1,4,0,0) and sigma 2, as a minimum under T is 7.
-    ∷ correctionCase setT (0xbf800000 ∷ 0x40800000 ∷ 0 ∷ 0 ∷ []) 0x40000000 false (7 ∷ [])
+    -- P12 correcting P9's spot, of samples (-1,4,0,0) and sigma 2, as a minimum under T is 7, and its cause (No. 5) 1.
+    ∷ correctionCase setT (0xbf800000 ∷ 0x40800000 ∷ 0 ∷ 0 ∷ []) 0x40000000 false (7 ∷ 1 ∷ [])
     -- As a maximum it is moved half an octave up, to 2.828427.
     ∷ correctionCase setT (0xbf800000 ∷ 0x40800000 ∷ 0 ∷ 0 ∷ []) 0x40000000 true (0 ∷ 0x403504f3 ∷ [])
     -- The samples (1,0.64,0.36,0.2214533) have a profile that is a line: as a minimum, that spot goes to the model's place, 0.8300096, past the cap.
     ∷ correctionCase setT (0x3f800000 ∷ 0x3f23d70a ∷ 0x3eb851ec ∷ 0x3e62c4a7 ∷ []) 0x40000000 false (0 ∷ 0x3f547b82 ∷ [])
     -- A set of zeros is refused with 4.
-    ∷ correctionCase blank (0xbf800000 ∷ 0x40800000 ∷ 0 ∷ 0 ∷ []) 0x40000000 true (4 ∷ [])
+    ∷ correctionCase blank (0xbf800000 ∷ 0x40800000 ∷ 0 ∷ 0 ∷ []) 0x40000000 true (4 ∷ 0 ∷ [])
     -- No. 1 map M is not refused.
     ∷ checksCase 0 thresholdsM setT (0 ∷ [])
     -- With a NaN for one of its thresholds, quiet, signalling or negative, it is refused with 8.
@@ -110,4 +110,33 @@ table =
     ∷ rawCase 6 5 2 3 5 setT (6 ∷ [])
     ∷ rawCase 6 6 2 3 5 setT (0 ∷ [])
     ∷ rawCase 6 7 2 3 5 setT (0 ∷ [])
+    -- No. 5 the statistic under T of four samples of 1; with the first -1, NaN, 0 or infinite its cause is 1, and with the largest float it is a number.
+    ∷ statisticCase sigmasT (0x3f800000 ∷ 0x3f800000 ∷ 0x3f800000 ∷ 0x3f800000 ∷ []) (0 ∷ 0x3ba957fc ∷ [])
+    ∷ statisticCase sigmasT (0xbf800000 ∷ 0x3f800000 ∷ 0x3f800000 ∷ 0x3f800000 ∷ []) (1 ∷ [])
+    ∷ statisticCase sigmasT (0x7fc00000 ∷ 0x3f800000 ∷ 0x3f800000 ∷ 0x3f800000 ∷ []) (1 ∷ [])
+    ∷ statisticCase sigmasT (0x00000000 ∷ 0x3f800000 ∷ 0x3f800000 ∷ 0x3f800000 ∷ []) (1 ∷ [])
+    ∷ statisticCase sigmasT (0x7f800000 ∷ 0x3f800000 ∷ 0x3f800000 ∷ 0x3f800000 ∷ []) (1 ∷ [])
+    ∷ statisticCase sigmasT (0x7f7fffff ∷ 0x3f800000 ∷ 0x3f800000 ∷ 0x3f800000 ∷ []) (0 ∷ 0x3d1573ff ∷ [])
+    -- With the first the least float above 0 the cause is 2, a quotient that overflows; so to 2^-128, and with the next float it is 3, a line that falls.
+    ∷ statisticCase sigmasT (0x00000001 ∷ 0x3f800000 ∷ 0x3f800000 ∷ 0x3f800000 ∷ []) (2 ∷ [])
+    ∷ statisticCase sigmasT (0x00200000 ∷ 0x3f800000 ∷ 0x3f800000 ∷ 0x3f800000 ∷ []) (2 ∷ [])
+    ∷ statisticCase sigmasT (0x00200001 ∷ 0x3f800000 ∷ 0x3f800000 ∷ 0x3f800000 ∷ []) (3 ∷ [])
+    -- With the last 14.271602 the line still rises, with the next float no more; from there to the largest float the cause is 3, and infinite it is 1.
+    ∷ statisticCase sigmasT (0x3f800000 ∷ 0x3f800000 ∷ 0x3f800000 ∷ 0x4164587b ∷ []) (0 ∷ 0x3e346e21 ∷ [])
+    ∷ statisticCase sigmasT (0x3f800000 ∷ 0x3f800000 ∷ 0x3f800000 ∷ 0x4164587c ∷ []) (3 ∷ [])
+    ∷ statisticCase sigmasT (0x3f800000 ∷ 0x3f800000 ∷ 0x3f800000 ∷ 0x7f7fffff ∷ []) (3 ∷ [])
+    ∷ statisticCase sigmasT (0x3f800000 ∷ 0x3f800000 ∷ 0x3f800000 ∷ 0x7f800000 ∷ []) (1 ∷ [])
+    -- The correction of a maximum of samples (-0.25,4,0,0), whose curvature is T's epsilon exactly: cause 1, at sigma 16 too, where its step would lead beyond T.
+    ∷ correctionCase setT (0xbe800000 ∷ 0x40800000 ∷ 0 ∷ 0 ∷ []) 0x40000000 true (7 ∷ 1 ∷ [])
+    ∷ correctionCase setT (0xbe800000 ∷ 0x40800000 ∷ 0 ∷ 0 ∷ []) 0x41800000 true (7 ∷ 1 ∷ [])
+    -- With the first sample a float lower it is curved enough: a size at sigma 2, and at sigma 16 cause 2, as from the third float above 8 on.
+    ∷ correctionCase setT (0xbe800001 ∷ 0x40800000 ∷ 0 ∷ 0 ∷ []) 0x40000000 true (0 ∷ 0x407fffff ∷ [])
+    ∷ correctionCase setT (0xbe800001 ∷ 0x40800000 ∷ 0 ∷ 0 ∷ []) 0x41800000 true (7 ∷ 2 ∷ [])
+    ∷ correctionCase setT (0xbe800001 ∷ 0x40800000 ∷ 0 ∷ 0 ∷ []) 0x41000002 true (0 ∷ 0x417fffff ∷ [])
+    ∷ correctionCase setT (0xbe800001 ∷ 0x40800000 ∷ 0 ∷ 0 ∷ []) 0x41000003 true (7 ∷ 2 ∷ [])
+    -- A sigma of 0 has no place: cause 1.
+    ∷ correctionCase setT (0xbf800000 ∷ 0x40800000 ∷ 0 ∷ 0 ∷ []) 0x00000000 true (7 ∷ 1 ∷ [])
+    -- Map M's spot as a minimum, and with a sigma of 0.25, sized: no size, accepted 0, and the cause in the first byte after it.
+    ∷ sizedCase minimumM (minimumM ++ (0x00 ∷ 0x00 ∷ 0x00 ∷ 0x00 ∷ 0x04 ∷ 0x00 ∷ 0x05 ∷ 0x00 ∷ 0x00 ∷ 0x01 ∷ 0x00 ∷ 0x00 ∷ []))
+    ∷ sizedCase smallM (smallM ++ (0x00 ∷ 0x00 ∷ 0x00 ∷ 0x00 ∷ 0x04 ∷ 0x00 ∷ 0x05 ∷ 0x00 ∷ 0x00 ∷ 0x02 ∷ 0x00 ∷ 0x00 ∷ []))
     ∷ []

@@ -1,10 +1,12 @@
--- The result of an operation is finite only where its operands are. Assumes nothing.
+-- What is finite: an operation's result only where its operands are; what has a value; what lies between 0 and a finite number. Assumes nothing.
 use mathlib.Core.Path.{_≡_, refl, sym, _∙_}
 use mathlib.Core.Bool.{Bool, true, false, cond}
-use lib.Dec.{eqb}
-use lib.Ieee.{Float, nan, inf, fin, add, sub, mul, neg}
+use Prim.Native.Nat.{ℕ}
+use lib.Dec.{T, eqb}
+use lib.Ieee.{Float, nan, inf, fin, add, sub, mul, neg, le, lt, eq, ofBits}
+use lib.Ieee.Exact.{HasValue}
 use Rattle.float.specs.Small.{finite}
-use Rattle.float.specs.Num.{_⊕_, _⊖_, _⊗_}
+use Rattle.float.specs.Num.{_⊕_, _⊖_, _⊗_, f0}
 
 neither : (b : Bool) (x y : Float) → finite x ≡ false → finite y ≡ false → finite (cond b x y) ≡ false
 neither true x y p q = p
@@ -42,3 +44,20 @@ product-finite (inf s) (fin t n d) h = let z : finite (inf s ⊗ fin t n d) ≡ 
 product-finite (fin s m e) nan h = (cc, cc)
 product-finite (fin s m e) (inf t) h = let z : finite (fin s m e ⊗ inf t) ≡ false = neither (eqb m 0) nan _ refl refl in (cc, cc)
 product-finite (fin s m e) (fin t n d) h = (refl, refl)
+
+-- ---- what has a value, and what lies between 0 and a finite number
+
+pub value-finite : (x : Float) (s : Bool) (a c : ℕ) → HasValue x s a c → finite x ≡ true
+unfolding finite
+value-finite nan s a c v = absurd v
+value-finite (inf t) s a c v = absurd v
+value-finite (fin t m e) s a c v = refl
+
+pub between-finite : (x y : Float) → T (le f0 x) → T (le x y) → finite y ≡ true → finite x ≡ true
+unfolding le lt eq finite ofBits
+between-finite nan y a b f = absurd a
+between-finite (inf false) nan a b f = absurd b
+between-finite (inf false) (inf t) a b f = f
+between-finite (inf false) (fin t n e) a b f = absurd b
+between-finite (inf true) y a b f = absurd a
+between-finite (fin s m e) y a b f = refl

@@ -6,20 +6,29 @@ use native.Mathlib.Omega.{arith}
 use mathlib.Core.Bool.{Bool, true, false, not, true≢false, false≢true}
 use lib.IntN.{ℤ, pos, negsuc}
 use lib.Dec.{T, eqb, eqb-refl, eqb→eq, lt→ltb}
+use lib.Count.{trailingZeros}
 use lib.Pow.{pow-pos}
-use lib.Ieee.{Float, nan, inf, fin, binary32, up, down, lt, eq, ne, isNan, fits, ofInt, ofBits, odd, div}
+use lib.Ieee.{Float, nan, inf, fin, binary32, up, down, lt, eq, ne, isNan, fits, ofInt, ofBits, ofFields, odd, div, round, size, span, climb, units}
 use lib.Ieee.Exact.{HasValue}
 use lib.Ieee.Back.{round-whole}
 use lib.Ieee.Fits.{up-pos}
 use lib.Ieee.Positive.{positive}
 use lib.Ieee.Bits.{is-true}
 use borrow.Author.Tests.{lt-ltb, le-ltb, ne-eqb}
-use Rattle.float.specs.Num.{f0}
+use Rattle.float.specs.Num.{f0, f1}
 
 -- ---- constants
 pub zero-is : f0 ≡ fin false 0 (pos 0)
 unfolding ofBits odd
 zero-is = refl
+
+pub zero-rounds : f0 ≡ round binary32 false 0 1
+unfolding ofBits ofFields odd trailingZeros round size span climb units
+zero-rounds = refl
+
+pub one-rounds : f1 ≡ round binary32 false 1 1
+unfolding ofBits ofFields odd trailingZeros round size span climb units
+one-rounds = refl
 
 pub inf-is : div binary32 (ofBits binary32 0x3f800000) (ofBits binary32 0) ≡ inf false
 unfolding div ofBits odd

@@ -16,7 +16,7 @@ use Rattle.words.proofs.WordsLaws.{length-floatBytes}
 use Rattle.record.proofs.LayoutLaws.{length-recordBytes}
 use Rattle.size.specs.declared.Corrected.{Corrected}
 use Rattle.join.specs.declared.Home.{Home}
-use Rattle.join.specs.Sized.{sizedWidth, givenSigma, acceptedOf, sizeOf, homeOf, halfBytes, tailBytes, sizedBytes}
+use Rattle.join.specs.Sized.{sizedWidth, givenSigma, acceptedOf, missingOf, sizeOf, homeOf, halfBytes, tailBytes, sizedBytes}
 use Rattle.join.specs.Join.{recordsFrom, recordsOf, sizedAll, laidSized}
 
 -- ---- lengths
@@ -28,7 +28,7 @@ length-halfBytes v = refl
 length-tailBytes : (size : Corrected) (home : Home) → length (tailBytes size home) ≡ 12
 unfolding tailBytes halfBytes
 length-tailBytes size home =
-    omega (arith, length-append (floatBytes (givenSigma size)) (halfBytes (home .row) ++ (halfBytes (home .col) ++ (acceptedOf size ∷ 0 ∷ 0 ∷ 0 ∷ []))), length-floatBytes (givenSigma size))
+    omega (arith, length-append (floatBytes (givenSigma size)) (halfBytes (home .row) ++ (halfBytes (home .col) ++ (acceptedOf size ∷ missingOf size ∷ 0 ∷ 0 ∷ []))), length-floatBytes (givenSigma size))
 
 pub length-sizedBytes : (s : Set) (r : Record) → length (sizedBytes s r) ≡ sizedWidth
 unfolding sizedBytes
@@ -54,17 +54,18 @@ pub two-stores : (l : List ℕ) (i a b : ℕ) → set (set l i a) (i + 1) b ≡ 
 two-stores l i a b = let e : i + 1 ≡ suc i = omega arith in rw e
 
 -- the four parts of a tail, stored one after the other
-pub tail-parts : {b c d e : List ℕ} {sigma : Float} {accepted : ℕ} (a : List ℕ) (at : ℕ) (size : Corrected) (home : Home)
+pub tail-parts : {b c d e : List ℕ} {sigma : Float} {accepted missing : ℕ} (a : List ℕ) (at : ℕ) (size : Corrected) (home : Home)
     → sigma ≡ givenSigma size
     → accepted ≡ acceptedOf size
+    → missing ≡ missingOf size
     → b ≡ sets a at (floatBytes sigma)
     → c ≡ sets b (at + 4) (halfBytes (home .row))
     → d ≡ sets c (at + 6) (halfBytes (home .col))
-    → e ≡ sets d (at + 8) (accepted ∷ 0 ∷ 0 ∷ 0 ∷ [])
+    → e ≡ sets d (at + 8) (accepted ∷ missing ∷ 0 ∷ 0 ∷ [])
     → e ≡ sets a at (tailBytes size home)
 unfolding tailBytes
-tail-parts a at size home sigma-is accepted-is b-is c-is d-is e-is =
-    simp (sets-append, length-floatBytes, length-halfBytes, add-assoc) (rw (e-is, d-is, c-is, b-is, sigma-is, accepted-is))
+tail-parts a at size home sigma-is accepted-is missing-is b-is c-is d-is e-is =
+    simp (sets-append, length-floatBytes, length-halfBytes, add-assoc) (rw (e-is, d-is, c-is, b-is, sigma-is, accepted-is, missing-is))
 
 -- a record and its tail, stored one after the other
 pub sized-parts : {b c : List ℕ} {size : Corrected} {home : Home} (a : List ℕ) (at : ℕ) (s : Set) (r : Record)

@@ -5,6 +5,7 @@ use lib.Dec.{eqb}
 use lib.Ieee.{Float}
 use Rattle.float.specs.Num.{f0}
 use Rattle.tables.specs.declared.Set.{Set}
+use Rattle.tables.specs.Refusal.{causeOf}
 use Rattle.record.specs.declared.Record.{Record}
 use Rattle.words.specs.Words.{floatBytes}
 use Rattle.record.specs.Layout.{recordBytes}
@@ -21,12 +22,17 @@ sizedWidth = 52
 -- the corrected sigma; where no size is given it is +0.0
 unfoldable pub givenSigma : Corrected → Float
 givenSigma (Sigma sigma) = sigma
-givenSigma NoSize = f0
+givenSigma (NoSize why) = f0
 
 -- accepted 1 or 0
 unfoldable pub acceptedOf : Corrected → ℕ
 acceptedOf (Sigma sigma) = 1
-acceptedOf NoSize = 0
+acceptedOf (NoSize why) = 0
+
+-- the cause for which the size is missing, 1 or 2; 0 where it is given
+unfoldable pub missingOf : Corrected → ℕ
+missingOf (Sigma sigma) = 0
+missingOf (NoSize why) = causeOf why
 
 -- the four samples in a record
 abbrev pub samplesIn : Record → List Float
@@ -44,9 +50,9 @@ homeOf r = record { row = nearestOf (r .y); col = nearestOf (r .x) }
 unfoldable pub halfBytes : ℕ → List ℕ
 halfBytes v = v % 256 ∷ v / 256 ∷ []
 
--- what follows the record: corrected sigma f32, home row u16, home col u16, accepted 1 or 0, three zero bytes
+-- what follows the record: corrected sigma f32, home row u16, home col u16, accepted 1 or 0, why the size is missing, two zero bytes
 unfoldable pub tailBytes : Corrected → Home → List ℕ
-tailBytes size home = floatBytes (givenSigma size) ++ (halfBytes (home .row) ++ (halfBytes (home .col) ++ (acceptedOf size ∷ 0 ∷ 0 ∷ 0 ∷ [])))
+tailBytes size home = floatBytes (givenSigma size) ++ (halfBytes (home .row) ++ (halfBytes (home .col) ++ (acceptedOf size ∷ missingOf size ∷ 0 ∷ 0 ∷ [])))
 
 -- its bytes
 unfoldable pub sizedBytes : Set → Record → List ℕ

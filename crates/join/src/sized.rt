@@ -5,7 +5,7 @@ ghost use Prim.Native.Nat.{_+_, _*_, _/_, _<_, _≤_, _^_};
 ghost use lib.ListN.{length};
 ghost use lib.Seq.{sets};
 ghost use Rattle.record.specs.Layout.{spotWidth};
-ghost use Rattle.join.specs.Sized.{sizedWidth, givenSigma, acceptedOf, halfBytes, tailBytes, homeOf, sizeOf, sizedBytes};
+ghost use Rattle.join.specs.Sized.{sizedWidth, givenSigma, acceptedOf, missingOf, halfBytes, tailBytes, homeOf, sizeOf, sizedBytes};
 ghost use Rattle.join.specs.Join.{recordsFrom, sizedAll, Placed, Writable};
 use crate::Home;
 use crate::SIZED_WIDTH;
@@ -20,7 +20,7 @@ fn given_sigma(size: Corrected) -> f32
 {
     match size {
         Corrected::Sigma(sigma) => sigma,
-        Corrected::NoSize => 0.0,
+        Corrected::NoSize(_) => 0.0,
     }
 }
 
@@ -30,7 +30,17 @@ fn accepted_of(size: Corrected) -> u8
 {
     match size {
         Corrected::Sigma(_) => 1,
-        Corrected::NoSize => 0,
+        Corrected::NoSize(_) => 0,
+    }
+}
+
+// Why the size is missing, 1 or 2; 0 where it is given.
+fn missing_of(size: Corrected) -> u8
+    ensures { λ r. ⌜ r ≡ missingOf size ⌝ }
+{
+    match size {
+        Corrected::Sigma(_) => 0,
+        Corrected::NoSize(why) => tables::refusals::cause_of(why),
     }
 }
 
@@ -77,7 +87,7 @@ fn put_tail(out: &mut [u8], at: usize, size: Corrected, home: Home)
     words::put_float(out, at, given_sigma(size));
     put_half(out, at + 4, home.row);
     put_half(out, at + 6, home.col);
-    words::put_bytes(out, at + 8, accepted_of(size), 0, 0, 0);
+    words::put_bytes(out, at + 8, accepted_of(size), missing_of(size), 0, 0);
 }
 
 // A sized record's bytes from the byte at on.

@@ -3,8 +3,8 @@ use Prim.Native.Nat.{ℕ, _+_}
 use mathlib.Core.List.{List, [], _∷_}
 use mathlib.Core.Bool.{Bool, cond}
 use lib.IntN.{pos}
-use lib.Ieee.{Float, binary32, nan, ofInt}
-use Rattle.float.specs.Num.{f0, f1}
+use lib.Ieee.{Float, binary32, ofInt, neg}
+use Rattle.float.specs.Num.{f0, f1, f2, f4}
 use Rattle.tables.specs.declared.Set.{Set}
 use Rattle.tables.specs.Refusal.{readSetOf}
 use Rattle.fit.specs.declared.Envelope.{Envelope}
@@ -16,10 +16,12 @@ use Rattle.refine.specs.declared.Spot.{Spot}
 use Rattle.refine.specs.declared.lend.Settled.{Settled}
 use Rattle.refine.specs.Refine.{indexOf, spatialOf}
 use Rattle.refine.specs.Lend.{lentOf}
+use Rattle.profile.specs.declared.Absence.{Absence}
+use Rattle.profile.specs.declared.Absence.the-variants.{Samples, Quotients, Line, Energy}
 use Rattle.profile.specs.declared.Statistic.{Statistic}
 use Rattle.profile.specs.declared.Statistic.the-variants.{Value, Absent}
 use Rattle.profile.specs.Profile.{statisticOf}
-use Rattle.size.specs.Correct.{geometryOf, betaOf, blendBetaOf, boundedOf, modelMoveOf}
+use Rattle.size.specs.Correct.{f3, geometryOf, betaOf, blendBetaOf, boundedOf, modelMoveOf}
 
 -- the set that a record holds; of zeros where the record is refused
 unfoldable pub held : List ℕ → Set
@@ -79,14 +81,21 @@ leavesOf s =
 unfoldable pub refinePart : List ℕ → List Float → Spot → Float → ℕ → Float
 refinePart b k spot ratio i = leavesOf (lentOf (held b) ratio (nineFours k) spot) at i
 
--- a statistic's number, which is never NaN; NaN where it is absent
+-- minus the number of an absent statistic's cause, in the order of the tests
+unfoldable pub minusOf : Absence → Float
+minusOf Samples = neg f1
+minusOf Quotients = neg f2
+minusOf Line = neg f3
+minusOf Energy = neg f4
+
+-- a statistic's number, which is never below 0; where it is absent, what its cause gives
 unfoldable pub numberOf : Statistic → Float
 numberOf (Value x) = x
-numberOf Absent = nan
+numberOf (Absent why) = minusOf why
 
--- the statistic with this number, or none
+-- the statistic with this number, or none: for which cause is all one to the part of a step
 unfoldable pub givenOf : Bool → Float → Statistic
-givenOf present x = cond present (Value x) Absent
+givenOf present x = cond present (Value x) (Absent Samples)
 
 -- the profile statistic of four samples
 unfoldable pub statisticPart : List ℕ → List Float → Float

@@ -5,8 +5,9 @@ ghost use Prim.Native.Nat.{_≤_};
 ghost use lib.IntN.{pos};
 ghost use lib.Ieee.{binary32, ofInt};
 ghost use Rattle.fit.specs.Cubic.{_at_, coeffsOf};
-ghost use Rattle.probe.specs.Probe.{held, partsOf, firstNine, fourOf, nineFours, freshOf, leavesOf, numberOf, givenOf};
+ghost use Rattle.probe.specs.Probe.{held, partsOf, firstNine, fourOf, nineFours, freshOf, leavesOf, minusOf, numberOf, givenOf};
 use fit::Envelope;
+use profile::Absence;
 use profile::Statistic;
 use refine::Spot;
 use refine::lend::Settled;
@@ -135,13 +136,25 @@ pub fn leaves(left: Settled) -> [f32; 6]
     ]
 }
 
-// A statistic's number; NaN where it is absent.
+// Minus the number of an absent statistic's cause.
+fn minus(why: Absence) -> f32
+    ensures { λ r. ⌜ r ≡ minusOf why ⌝ }
+{
+    match why {
+        Absence::Samples => -1.0,
+        Absence::Quotients => -2.0,
+        Absence::Line => -3.0,
+        Absence::Energy => -4.0,
+    }
+}
+
+// A statistic's number; where it is absent, minus that of its cause.
 pub fn number_of(s: Statistic) -> f32
     ensures { λ r. ⌜ r ≡ numberOf s ⌝ }
 {
     match s {
         Statistic::Value(x) => x,
-        Statistic::Absent => 0.0 / 0.0,
+        Statistic::Absent(why) => minus(why),
     }
 }
 
@@ -152,6 +165,6 @@ pub fn given(present: bool, x: f32) -> Statistic
     if present {
         Statistic::Value(x)
     } else {
-        Statistic::Absent
+        Statistic::Absent(Absence::Samples)
     }
 }

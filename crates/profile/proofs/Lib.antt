@@ -1,2 +1,3 @@
--- The law of the profile statistic.
+-- The laws of the profile statistic.
 pub mod ZeroSign
+pub mod CausesLaws

@@ -1,3 +1,4 @@
 -- What the profile statistic computes.
 pub mod Four
 pub mod Profile
+pub mod Causes

@@ -1,6 +1,6 @@
 -- The profile statistic: how far the four points (sigma squared, root of sigma squared over the sample) are from a rising line. Definitions only.
 -- Of the Rust's constants, PROFILE_X is `squaresOf` the sigmas, PROFILE_MEAN_X its `meanOf`, PROFILE_DX its `spreadOf`, PROFILE_X_ENERGY the `energyOf` that.
--- A statistic is absent for one of four causes, asked in this order: the samples, the roots, the line, the energies.
+-- A statistic is absent for one of four causes, asked in this order: the samples, the quotients with their roots, the line, the energies. The first that applies is given.
 use mathlib.Core.List.{List}
 use mathlib.Core.Bool.{Bool, cond, not, _&&_, _||_}
 use lib.Ieee.{Float, le}
@@ -8,6 +8,7 @@ use Rattle.float.specs.Small.{finite}
 use Rattle.float.specs.Num.{_⊖_, _⊗_, _⊘_, f0}
 use Rattle.fit.specs.Prims.{Prims, ours}
 use Rattle.profile.specs.Four.{pairs, squaresOf, overOf, rootsOf, quotientsOf, meanOf, spreadOf, dotOf, energyOf, largestBy, allFinite, allAbove, allBelow, allUsable}
+use Rattle.profile.specs.declared.Absence.the-variants.{Samples, Quotients, Line, Energy}
 use Rattle.profile.specs.declared.Statistic.{Statistic}
 use Rattle.profile.specs.declared.Statistic.the-variants.{Value, Absent}
 
@@ -40,7 +41,7 @@ usableEnergy residual whole =
 
 -- the residual's energy over the whole
 unfoldable pub ratioOf : Float → Float → Statistic
-ratioOf residual whole = cond (usableEnergy residual whole) (Value (residual ⊘ whole)) Absent
+ratioOf residual whole = cond (usableEnergy residual whole) (Value (residual ⊘ whole)) (Absent Energy)
 
 -- the line through the four points (x, z)
 unfoldable pub fittedOf : List Float → List Float → Statistic
@@ -51,7 +52,7 @@ fittedOf x z =
     cond
     (usableLine mean numerator slope (mean ⊖ slope ⊗ meanOf x))
     (ratioOf (energyOf (residualOf (spreadOf z) slope (spreadOf x))) (energyOf z))
-    Absent
+    (Absent Line)
 
 -- the roots of the quotients, scaled by the largest of them
 unfoldable pub scaledBy : Prims → List Float → List Float → Statistic
@@ -59,7 +60,7 @@ scaledBy p x quotients =
     let roots = rootsOf quotients in
     let largest = largestBy p roots in
     let scaled = overOf roots largest in
-    cond (usableRoots quotients roots largest scaled) (fittedOf x scaled) Absent
+    cond (usableRoots quotients roots largest scaled) (fittedOf x scaled) (Absent Quotients)
 
 -- the same by this build's max
 abbrev pub scaledOf : List Float → List Float → Statistic
@@ -69,7 +70,7 @@ scaledOf = scaledBy ours
 unfoldable pub statisticBy : Prims → List Float → List Float → Statistic
 statisticBy p sigmas l =
     let x = squaresOf sigmas in
-    cond (usableSamples l) (scaledBy p x (quotientsOf x l)) Absent
+    cond (usableSamples l) (scaledBy p x (quotientsOf x l)) (Absent Samples)
 
 -- the same by this build's max
 abbrev pub statisticOf : List Float → List Float → Statistic

@@ -1,4 +1,4 @@
-// The profile statistic of four samples: how far the points that they give lie from a rising line, or that there is none.
+// The profile statistic of four samples: how far the points that they give lie from a rising line, or why there is none.
 // Each function follows the published Rust's operations one by one, each rounded once; the definitions are in specs/.
 ghost use mathlib.Core.Path.{_≡_};
 ghost use Rattle.profile.specs.Four.{energyOf};
@@ -19,10 +19,18 @@ use crate::four::squares;
 
 mod four;
 
-// The profile statistic: a number or its absence.
+// Why there is no statistic: the first of its tests, in this order, that the samples fail.
+pub enum Absence {
+    Samples,
+    Quotients,
+    Line,
+    Energy,
+}
+
+// The profile statistic: a number, or why there is none.
 pub enum Statistic {
     Value(f32),
-    Absent,
+    Absent(Absence),
 }
 
 // Each dy less the slope's part of its dx.
@@ -82,7 +90,7 @@ fn ratio(residual: f32, whole: f32) -> Statistic
     if usable_energy(residual, whole) {
         Statistic::Value(residual / whole)
     } else {
-        Statistic::Absent
+        Statistic::Absent(Absence::Energy)
     }
 }
 
@@ -106,7 +114,7 @@ fn fitted(x: [f32; 4], z: [f32; 4]) -> Statistic
     if usable_line(mean_z, numerator, slope, mean_z - slope * mean_x) {
         off_line(dx, z, dy, slope)
     } else {
-        Statistic::Absent
+        Statistic::Absent(Absence::Line)
     }
 }
 
@@ -120,7 +128,7 @@ fn scaled(x: [f32; 4], q: [f32; 4]) -> Statistic
     if usable_roots(q, root, maximum_root, z) {
         fitted(x, z)
     } else {
-        Statistic::Absent
+        Statistic::Absent(Absence::Quotients)
     }
 }
 
@@ -132,6 +140,6 @@ pub fn profile_compatibility_statistic(sigmas: [f32; 4], samples: [f32; 4]) -> S
         let x = squares(sigmas);
         scaled(x, quotients(x, samples))
     } else {
-        Statistic::Absent
+        Statistic::Absent(Absence::Samples)
     }
 }

@@ -10,6 +10,7 @@ use contract.Monad.{Fun}
 use Rattle.tables.proofs.is_good as is-good
 use Rattle.tables.proofs.has_nan as has-nan
 use Rattle.tables.proofs.read_set as read-set
+use Rattle.tables.proofs.refusals.cause_of as cause-of
 use Rattle.tables.proofs.refusals.number_of as number-of
 use Rattle.tables.proofs.refusals.value_of as value-of
 use Rattle.checks.proofs.checked as checked
@@ -42,7 +43,10 @@ module _ {M : Type 1} (𝓤 : URA M) (H : Heap 𝓤) (A : Atoms 𝓤) (mem : Mem
   pub read-set-settled : Settles 𝓤 read-set.ended (read-set.clauses 𝓤 H A mem run)
   read-set-settled κs a g g' r r' ws ws' = one-answer 𝓤 _
 
-  -- ---- the number and the value of a refusal
+  -- ---- the number of a cause; the number and the value of a refusal
+
+  pub cause-of-settled : Settles 𝓤 cause-of.ended (cause-of.clauses 𝓤 H A mem run)
+  cause-of-settled κs a g g' r r' ws ws' = one-answer 𝓤 _
 
   pub number-of-settled : Settles 𝓤 number-of.ended (number-of.clauses 𝓤 H A mem run)
   number-of-settled κs a g g' r r' ws ws' = one-answer 𝓤 _

@@ -24,7 +24,7 @@ module _ {M : Type 1} (𝓤 : URA M) (H : Heap 𝓤) (A : Atoms 𝓤) (mem : Mem
   uramsheg-join-settled κs a g g' r r' ws ws' = one-value 𝓤 _ _ _ (λ x. x .number) (λ x. untouched 4 (x .buffer, (x .value, tt)))
 
   pub uramsheg-correct-settled : Settles 𝓤 uramsheg-correct.ended (uramsheg-correct.clauses 𝓤 H A mem run)
-  uramsheg-correct-settled κs a g g' r r' ws ws' = one-value 𝓤 _ _ _ (λ x. x .number) (λ x. untouched 7 (x .corrected, tt))
+  uramsheg-correct-settled κs a g g' r r' ws ws' = one-value 𝓤 _ _ _ (λ x. x .number) (λ x. untouched 7 (x .corrected, (x .cause, tt)))
 
   pub uramsheg-octave-count-settled : Settles 𝓤 uramsheg-octave-count.ended (uramsheg-octave-count.clauses 𝓤 H A mem run)
   uramsheg-octave-count-settled κs a g g' r r' ws ws' = one-answer 𝓤 _

@@ -1,5 +1,5 @@
 -- What the correction answers and refuses, and where a corrected sigma lies. Assumes nothing.
-use mathlib.Core.Path.{_≡_, refl, sym, _∙_}
+use mathlib.Core.Path.{_≡_, refl, sym, ap, _∙_}
 use mathlib.Core.List.{List}
 use mathlib.Core.Bool.{Bool, true, false, cond, _&&_}
 use mathlib.Core.Logic.{_⊎_, inl, inr}
@@ -12,6 +12,8 @@ use Rattle.tables.specs.Set.{good}
 use Rattle.float.proofs.Bools.{both, all-four, passed}
 use Rattle.tables.specs.declared.Set.{Set}
 use Rattle.tables.specs.Refusal.{number}
+use Rattle.tables.specs.declared.Missing.{Missing}
+use Rattle.tables.specs.declared.Missing.the-variants.{Polarity, Range}
 use Rattle.tables.specs.declared.Refusal.{Refusal}
 use Rattle.tables.specs.declared.Refusal.the-variants as refusal
 use Rattle.fit.specs.Cubic.{_at_, coeffsOf, curvatureOf}
@@ -24,8 +26,12 @@ use Rattle.size.specs.declared.Correction.the-variants.{Size, Refused}
 
 -- ---- answers that differ
 
-no-size-no-sigma : (sigma : Float) → NoSize ≡ Sigma sigma → ⊥
-no-size-no-sigma sigma e = let z : _≡_ {A = ℕ} 0 1 = cc in omega arith
+pub no-size-no-sigma : (why : Missing) (sigma : Float) → NoSize why ≡ Sigma sigma → ⊥
+no-size-no-sigma why sigma e = let z : _≡_ {A = ℕ} 0 1 = cc in omega arith
+
+seven-not-four : (why : Missing) → refusal.NoSize why ≡ refusal.BadSet → ⊥
+unfolding number
+seven-not-four why e = let z : _≡_ {A = ℕ} 7 4 = ap number e in omega arith
 
 refused-no-size : {w : Refusal} (sigma : Float) → Refused w ≡ Size sigma → ⊥
 refused-no-size sigma e = let z : _≡_ {A = ℕ} 0 1 = cc in omega arith
@@ -63,7 +69,7 @@ module _ (g : Geometry) where
         let move = boundedOf g beta (neg derivative ⊘ curvature) in
         let model = modelMoveOf g beta (k at 0) derivative curvature move in
         let end = sigmaAt g (t ⊕ move) in
-        let h = passed (inRange g move (t ⊕ move) end) (Sigma (chosenOf g k t move model end isMax)) NoSize e (no-size-no-sigma sigma) in
+        let h = passed (inRange g move (t ⊕ move) end) (Sigma (chosenOf g k t move model end isMax)) (NoSize Range) e (no-size-no-sigma Range sigma) in
         same-window (h .1) (chosen-in-window t move model end (accepted-in-window (t ⊕ move) end (both (finite move) _ (h .0) .1)))
 
 module _ (s : Set) (l : List Float) (anchor : Float) (isMax : Bool) where
@@ -76,7 +82,7 @@ module _ (s : Set) (l : List Float) (anchor : Float) (isMax : Bool) where
       let derivative = derivativeOf k t in
       let curvature = curvatureOf k t in
       let beta = blendBetaOf g (s .sigmas) l in
-      let h = passed (trusted g t derivative curvature isMax) (movedOf g k beta t derivative curvature isMax) NoSize e (no-size-no-sigma sigma) in
+      let h = passed (trusted g t derivative curvature isMax) (movedOf g k beta t derivative curvature isMax) (NoSize Polarity) e (no-size-no-sigma Polarity sigma) in
       moved-in-window g k isMax beta t derivative curvature sigma (h .1)
 
   -- ---- the answers
@@ -84,7 +90,7 @@ module _ (s : Set) (l : List Float) (anchor : Float) (isMax : Bool) where
   answered : (c : Corrected) (sigma : Float) → answerOf c ≡ Size sigma → c ≡ Sigma sigma
   unfolding answerOf
   answered (Sigma x) sigma e = cc
-  answered NoSize sigma e = absurd (refused-no-size sigma e)
+  answered (NoSize why) sigma e = absurd (refused-no-size sigma e)
 
   -- a size is answered only for a good set, and it is the corrected sigma
   pub size-is-corrected : (sigma : Float) → correctOf s l anchor isMax ≡ Size sigma → (good s ≡ true) × (correctedOf s l anchor isMax ≡ Sigma sigma)
@@ -103,20 +109,30 @@ module _ (s : Set) (l : List Float) (anchor : Float) (isMax : Bool) where
   unfolding correctBy
   bad-set-refused g = rw g
 
-  -- a good set with no corrected sigma is refused
-  pub no-size-refused : good s ≡ true → correctedOf s l anchor isMax ≡ NoSize → correctOf s l anchor isMax ≡ Refused refusal.NoSize
+  -- a good set with no corrected sigma is refused, with the cause
+  pub no-size-refused : (why : Missing) → good s ≡ true → correctedOf s l anchor isMax ≡ NoSize why → correctOf s l anchor isMax ≡ Refused (refusal.NoSize why)
   unfolding correctBy answerOf
-  no-size-refused g e = rw (g, e)
+  no-size-refused why g e = rw (g, e)
 
-  -- so a refusal is 4, of a bad set, or 7, of a good one without a corrected sigma
-  pub refused-with-four-or-seven : (w : Refusal) → correctOf s l anchor isMax ≡ Refused w → ((good s ≡ false) × (number w ≡ 4)) ⊎ ((good s ≡ true) × (correctedOf s l anchor isMax ≡ NoSize) × (number w ≡ 7))
-  unfolding number
+  -- so a refusal is 4, of a bad set, or 7 with its cause, of a good one without a corrected sigma
+  pub refused-with-four-or-seven : (w : Refusal) → correctOf s l anchor isMax ≡ Refused w
+      → ((good s ≡ false) × (w ≡ refusal.BadSet)) ⊎ ((good s ≡ true) × ((why : Missing) × (correctedOf s l anchor isMax ≡ NoSize why) × (w ≡ refusal.NoSize why)))
   refused-with-four-or-seven w e = go (good s) refl (correctedOf s l anchor isMax) refl
     where
-      go : (b : Bool) → good s ≡ b → (c : Corrected) → correctedOf s l anchor isMax ≡ c → ((good s ≡ false) × (number w ≡ 4)) ⊎ ((good s ≡ true) × (correctedOf s l anchor isMax ≡ NoSize) × (number w ≡ 7))
+      go : (b : Bool) → good s ≡ b → (c : Corrected) → correctedOf s l anchor isMax ≡ c
+          → ((good s ≡ false) × (w ≡ refusal.BadSet)) ⊎ ((good s ≡ true) × ((why : Missing) × (correctedOf s l anchor isMax ≡ NoSize why) × (w ≡ refusal.NoSize why)))
       go false g c k = let bad : Refused refusal.BadSet ≡ Refused w = sym (bad-set-refused g) ∙ e in inl (g, cc)
       go true g (Sigma sigma) k = absurd (refused-no-size sigma (sym e ∙ corrected-is-size sigma g k))
-      go true g NoSize k = let none : Refused refusal.NoSize ≡ Refused w = sym (no-size-refused g k) ∙ e in inr (g, k, cc)
+      go true g (NoSize why) k = let none : Refused (refusal.NoSize why) ≡ Refused w = sym (no-size-refused why g k) ∙ e in inr (g, (why, k, cc))
+
+  -- 7 is answered with a cause exactly where that is the inner correction's
+  pub cause-is-corrects : (why : Missing) → correctOf s l anchor isMax ≡ Refused (refusal.NoSize why) → correctedOf s l anchor isMax ≡ NoSize why
+  cause-is-corrects why e = go (refused-with-four-or-seven (refusal.NoSize why) e)
+    where
+      go : ((good s ≡ false) × (refusal.NoSize why ≡ refusal.BadSet)) ⊎ ((good s ≡ true) × ((other : Missing) × (correctedOf s l anchor isMax ≡ NoSize other) × (refusal.NoSize why ≡ refusal.NoSize other)))
+          → correctedOf s l anchor isMax ≡ NoSize why
+      go (inl h) = absurd (seven-not-four why (h .1))
+      go (inr h) = let same : h .1 .0 ≡ why = cc in h .1 .1 ∙ ap NoSize same
 
   -- a corrected sigma is finite and lies in the accepted window
   pub size-in-window : (sigma : Float) → correctOf s l anchor isMax ≡ Size sigma → InWindow (geometryOf s) sigma

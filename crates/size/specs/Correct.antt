@@ -1,5 +1,5 @@
 -- The correction of a spot's sigma. Definitions only.
--- A size is refused for one of two causes, asked in this order: the place where the spot stands is not trusted, or the move leads out of range.
+-- A size is missing for one of two causes, asked in this order: the place where the spot stands is not trusted, or the move leads out of range. The first that applies is given.
 use mathlib.Core.List.{List}
 use mathlib.Core.Bool.{Bool, cond, not, _&&_, _||_}
 use lib.Ieee.{Float, binary32, ofBits, lt, le, eq, ne, neg}
@@ -10,6 +10,7 @@ use Rattle.logexp.specs.Exp.{expOf}
 use Rattle.float.specs.Num.{_⊕_, _⊖_, _⊗_, _⊘_, f0, f1, f2}
 use Rattle.tables.specs.Set.{good}
 use Rattle.tables.specs.declared.Set.{Set}
+use Rattle.tables.specs.declared.Missing.the-variants.{Polarity, Range}
 use Rattle.tables.specs.declared.Refusal.the-variants as refusal
 use Rattle.fit.specs.Cubic.{_at_, coeffsOf, curvatureOf}
 use Rattle.fit.specs.Prims.{Prims, ours}
@@ -77,7 +78,7 @@ blendOf g statistic =
 -- the same, beta where the statistic is absent
 unfoldable pub betaOf : Geometry → Statistic → Float
 betaOf g (Value statistic) = blendOf g statistic
-betaOf g Absent = g .beta
+betaOf g (Absent why) = g .beta
 
 -- the part of a step that the samples l allow
 unfoldable pub blendBetaBy : Prims → Geometry → List Float → List Float → Float
@@ -191,7 +192,7 @@ movedOf g k beta t derivative curvature isMax =
     cond
     (inRange g move (t ⊕ move) sigma)
     (Sigma (chosenOf g k t move (modelMoveOf g beta (k at 0) derivative curvature move) sigma isMax))
-    NoSize
+    (NoSize Range)
 
 -- the corrected sigma of a spot with the samples l and the sigma that its fit gave
 unfoldable pub correctedBy : Prims → Set → List Float → Float → Bool → Corrected
@@ -204,18 +205,18 @@ correctedBy p s l anchor isMax =
     cond
     (trusted g t derivative curvature isMax)
     (movedOf g k (blendBetaBy p g (s .sigmas) l) t derivative curvature isMax)
-    NoSize
+    (NoSize Polarity)
 
 -- the same by this build's max
 abbrev pub correctedOf : Set → List Float → Float → Bool → Corrected
 correctedOf = correctedBy ours
 
--- the corrected sigma, or the refusal
+-- the corrected sigma, or the refusal with its cause
 unfoldable pub answerOf : Corrected → Correction
 answerOf (Sigma sigma) = Size sigma
-answerOf NoSize = Refused refusal.NoSize
+answerOf (NoSize why) = Refused (refusal.NoSize why)
 
--- Correction checks the set, then answers a corrected sigma or that there is none.
+-- Correction checks the set, then answers a corrected sigma or why there is none.
 unfoldable pub correctBy : Prims → Set → List Float → Float → Bool → Correction
 correctBy p s l sigma isMax = cond (good s) (answerOf (correctedBy p s l sigma isMax)) (Refused refusal.BadSet)
 

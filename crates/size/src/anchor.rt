@@ -7,6 +7,7 @@ use fit::scale_fit::compute_geometry_poly_coeffs;
 use fit::scale_fit::curvature;
 use profile::Statistic;
 use profile::profile_compatibility_statistic;
+use tables::Missing;
 use tables::Set;
 
 // The set's geometry numbers by name.
@@ -61,7 +62,7 @@ pub fn profile_beta_from_statistic(g: Geometry, statistic: Statistic) -> f32
 {
     match statistic {
         Statistic::Value(value) => blend(g, value),
-        Statistic::Absent => g.beta,
+        Statistic::Absent(_) => g.beta,
     }
 }
 
@@ -258,7 +259,7 @@ fn moved(g: Geometry, k: [f32; 4], beta: f32, t: f32, d: f32, c: f32, is_max: bo
         let model = profile_model_move(g, beta, k[0], d, c, step);
         Corrected::Sigma(chosen(g, k, t, step, model, sigma, is_max))
     } else {
-        Corrected::NoSize
+        Corrected::NoSize(Missing::Range)
     }
 }
 
@@ -281,6 +282,6 @@ pub fn corrected_sigma_from_anchor(
         let beta = profile_blend_beta(g, sigmas, samples);
         moved(g, k, beta, t, d, c, is_max)
     } else {
-        Corrected::NoSize
+        Corrected::NoSize(Missing::Polarity)
     }
 }

@@ -1,16 +1,17 @@
-// The correction of a spot's sigma: from its four samples, the sigma that its fit gave and its polarity, a corrected sigma or that there is none.
+// The correction of a spot's sigma: from its four samples, the sigma that its fit gave and its polarity, a corrected sigma or why there is none.
 // Each function follows the published Rust's operations one by one, each rounded once; the definitions are in specs/.
 ghost use mathlib.Core.Path.{_≡_};
 ghost use Rattle.size.specs.Correct.{correctOf};
+use tables::Missing;
 use tables::Refusal;
 use tables::Set;
 
 pub mod anchor;
 
-// What the inner correction answers: a corrected sigma or its absence.
+// What the inner correction answers: a corrected sigma, or why there is none.
 pub enum Corrected {
     Sigma(f32),
-    NoSize,
+    NoSize(Missing),
 }
 
 // What the correction answers.
@@ -45,6 +46,6 @@ pub fn correct(set: Set, samples: [f32; 4], sigma: f32, is_max: bool) -> Correct
     let corrected = anchor::corrected_sigma_from_anchor(set, samples, sigma, is_max);
     match corrected {
         Corrected::Sigma(size) => Correction::Size(size),
-        Corrected::NoSize => Correction::Refused(Refusal::NoSize),
+        Corrected::NoSize(why) => Correction::Refused(Refusal::NoSize(why)),
     }
 }

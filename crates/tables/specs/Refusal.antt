@@ -7,12 +7,19 @@ use lib.Dec.{ltb}
 use lib.Ieee.{isNan}
 use Rattle.tables.specs.declared.Refusal.{Refusal}
 use Rattle.tables.specs.declared.Refusal.the-variants.{Size, Level, Octave, BadSet, Records, Room, NoSize, Thresholds}
+use Rattle.tables.specs.declared.Missing.{Missing}
+use Rattle.tables.specs.declared.Missing.the-variants.{Polarity, Range}
 use Rattle.tables.specs.declared.Checked.{Checked}
 use Rattle.tables.specs.declared.Checked.the-variants.{Fine, Bad}
 use Rattle.tables.specs.declared.SetRead.{SetRead}
 use Rattle.tables.specs.declared.Set.{Set}
 use Rattle.tables.specs.declared.Thresholds as limits
 use Rattle.tables.specs.Set.{good, setOf, goodRecord, blank}
+
+-- the number of a cause for which a size is missing: 1 for the polarity or a slope that is not finite, 2 for the range
+unfoldable pub causeOf : Missing → ℕ
+causeOf Polarity = 1
+causeOf Range = 2
 
 -- the number of a refusal
 unfoldable pub number : Refusal → ℕ
@@ -22,18 +29,18 @@ number Octave = 3
 number BadSet = 4
 number (Records i) = 5
 number Room = 6
-number NoSize = 7
+number (NoSize why) = 7
 number Thresholds = 8
 
--- the value that goes with it: a bad record's index, else 0
+-- the value that goes with it: a bad record's index, the cause of a missing size, else 0
 unfoldable pub value : Refusal → ℕ
 value (Records i) = i
+value (NoSize why) = causeOf why
 value Size = 0
 value Level = 0
 value Octave = 0
 value BadSet = 0
 value Room = 0
-value NoSize = 0
 value Thresholds = 0
 
 -- refuse r where the test holds, and look further otherwise

@@ -29,6 +29,12 @@ pub struct Thresholds {
     pub high: f32,
 }
 
+// Why a spot has no size: at its place the curve is not one of its polarity or not finite, or its step leads out of the fitted range.
+pub enum Missing {
+    Polarity,
+    Range,
+}
+
 // Why a call was refused; specs/Refusal.antt gives each its number.
 pub enum Refusal {
     Size,
@@ -37,7 +43,7 @@ pub enum Refusal {
     BadSet,
     Records(usize),
     Room,
-    NoSize,
+    NoSize(Missing),
     Thresholds,
 }
 

@@ -18,8 +18,8 @@ corrected-sigma-from-anchor-requires c κs = search needs
 enum-known-corrected : tie.Need-enum-known-corrected
 enum-known-corrected c = search needs
 
-enum-told : tie.Need-enum-told
-enum-told c = search needs
+enum-known-corrected-2 : tie.Need-enum-known-corrected-2
+enum-known-corrected-2 c = search needs
 
 returns-2 : tie.Need-returns-2
 unfolding correctBy answerOf
@@ -27,7 +27,7 @@ returns-2 c = rw (← c .before .before .before .before .before .is-good .ensure
 
 returns-3 : tie.Need-returns-3
 unfolding correctBy answerOf
-returns-3 c = rw (← c .before .before .before .before .is-good .ensures, not-false (c .before .before .before .before .is-good .result) (c .before .before .before .if1 .left), ← c .before .before .corrected-sigma-from-anchor .ensures, c .enum-told .given .1)
+returns-3 c = rw (← c .before .before .before .before .before .is-good .ensures, not-false (c .before .before .before .before .before .is-good .result) (c .before .before .before .before .if1 .left), ← c .before .before .before .corrected-sigma-from-anchor .ensures, c .before .corrected2 .given .1)
 
 pub correct-spec : {M : Type 1} → statement M
 correct-spec =
@@ -37,6 +37,6 @@ correct-spec =
     returns
     corrected-sigma-from-anchor-requires
     enum-known-corrected
-    enum-told
+    enum-known-corrected-2
     returns-2
     returns-3)

@@ -1,6 +1,6 @@
 -- `uramsheg_correct` meets its contract: only the arm that answers a size stores one.
 use borrow.Author.Needs.{needs}
-use Rattle.alp_c.specs.Face.{sizeNumber, sizeAfter, correctFace}
+use Rattle.alp_c.specs.Face.{sizeNumber, sizeCause, sizeAfter, correctFace}
 use Rattle.alp_c.proofs.correction.uramsheg_correct.Statement.{statement}
 use Rattle.alp_c.proofs.correction.uramsheg_correct.Tie as tie
 
@@ -16,11 +16,14 @@ enum-known-answer c = search needs
 enum-known-answer-2 : tie.Need-enum-known-answer-2
 enum-known-answer-2 c = search needs
 
+value-of-requires : tie.Need-value-of-requires
+value-of-requires c κs = search needs
+
 number-of-requires : tie.Need-number-of-requires
 number-of-requires c κs = search needs
 
 returns : tie.Need-returns
-unfolding correctFace sizeNumber sizeAfter
+unfolding correctFace sizeNumber sizeCause sizeAfter
 returns c =
     rw (
       ← c .before .before .before .before .before .read-set .ensures,
@@ -29,12 +32,13 @@ returns c =
     )
 
 returns-2 : tie.Need-returns-2
-unfolding correctFace sizeNumber sizeAfter
+unfolding correctFace sizeNumber sizeCause sizeAfter
 returns-2 c =
     rw (
-      ← c .before .before .before .before .before .before .read-set .ensures,
-      ← c .before .before .before .before .correct .ensures,
-      c .before .before .answer2 .given .1,
+      ← c .before .before .before .before .before .before .before .read-set .ensures,
+      ← c .before .before .before .before .before .correct .ensures,
+      c .before .before .before .answer2 .given .1,
+      c .before .value-of .ensures,
       c .number-of .ensures,
     )
 
@@ -46,6 +50,7 @@ uramsheg-correct-spec =
     correct-requires
     enum-known-answer
     enum-known-answer-2
+    value-of-requires
     number-of-requires
     returns
     returns-2)

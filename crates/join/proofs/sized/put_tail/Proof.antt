@@ -28,6 +28,9 @@ add-put-bytes c = search needs
 accepted-of-requires : tie.Need-accepted-of-requires
 accepted-of-requires c κs = search needs
 
+missing-of-requires : tie.Need-missing-of-requires
+missing-of-requires c κs = search needs
+
 put-bytes-requires : tie.Need-put-bytes-requires
 put-bytes-requires c κs = search needs
 
@@ -37,11 +40,11 @@ same-length c = search needs
 returns : tie.Need-returns
 returns c =
     let bytes = c .before .before in
-    let col = bytes .before .before .before .before .before in
+    let col = bytes .before .before .before .before .before .before in
     let row = col .before .before .before .before in
     let sigma = row .before .before .before .before in
     let a = sigma .before .before .before .before .args in
-    tail-parts _ (a .at) (a .size) (a .home) (sigma .before .given-sigma .ensures) (bytes .before .accepted-of .ensures) (sigma .put-float .ensures) (row .put-half .ensures) (col .put-half2 .ensures) (bytes .put-bytes .ensures)
+    tail-parts _ (a .at) (a .size) (a .home) (sigma .before .given-sigma .ensures) (bytes .before .before .accepted-of .ensures) (bytes .before .missing-of .ensures) (sigma .put-float .ensures) (row .put-half .ensures) (col .put-half2 .ensures) (bytes .put-bytes .ensures)
 
 pub put-tail-spec : {M : Type 1} → statement M
 put-tail-spec =
@@ -55,6 +58,7 @@ put-tail-spec =
     put-half-requires-2
     add-put-bytes
     accepted-of-requires
+    missing-of-requires
     put-bytes-requires
     same-length
     returns)

@@ -7,6 +7,15 @@ use Rattle.tables.proofs.refusals.value_of.Tie as tie
 enum-known-why : tie.Need-enum-known-why
 enum-known-why c = search needs
 
+enum-known-why-2 : tie.Need-enum-known-why-2
+enum-known-why-2 c = search needs
+
+cause-of-requires : tie.Need-cause-of-requires
+cause-of-requires c κs = search needs
+
+cast-result : tie.Need-cast-result
+cast-result c = search needs
+
 enum-told : tie.Need-enum-told
 enum-told c = search needs
 
@@ -25,53 +34,52 @@ enum-told-5 c = search needs
 enum-told-6 : tie.Need-enum-told-6
 enum-told-6 c = search needs
 
-enum-told-7 : tie.Need-enum-told-7
-enum-told-7 c = search needs
-
 returns : tie.Need-returns
 unfolding value
 returns c = rw (c .before .why .given .1)
 
 returns-2 : tie.Need-returns-2
 unfolding value
-returns-2 c = rw (c .enum-told .given .1)
+returns-2 c = rw (c .before .before .why2 .given .1, ← c .cause-of .ensures)
 
 returns-3 : tie.Need-returns-3
 unfolding value
-returns-3 c = rw (c .enum-told2 .given .1)
+returns-3 c = rw (c .enum-told .given .1)
 
 returns-4 : tie.Need-returns-4
 unfolding value
-returns-4 c = rw (c .enum-told3 .given .1)
+returns-4 c = rw (c .enum-told2 .given .1)
 
 returns-5 : tie.Need-returns-5
 unfolding value
-returns-5 c = rw (c .enum-told4 .given .1)
+returns-5 c = rw (c .enum-told3 .given .1)
 
 returns-6 : tie.Need-returns-6
 unfolding value
-returns-6 c = rw (c .enum-told5 .given .1)
+returns-6 c = rw (c .enum-told4 .given .1)
 
 returns-7 : tie.Need-returns-7
 unfolding value
-returns-7 c = rw (c .enum-told6 .given .1)
+returns-7 c = rw (c .enum-told5 .given .1)
 
 returns-8 : tie.Need-returns-8
 unfolding value
-returns-8 c = rw (c .enum-told7 .given .1)
+returns-8 c = rw (c .enum-told6 .given .1)
 
 pub value-of-spec : {M : Type 1} → statement M
 value-of-spec =
     tie.close
     (tie.spec
     enum-known-why
+    enum-known-why-2
+    cause-of-requires
+    cast-result
     enum-told
     enum-told-2
     enum-told-3
     enum-told-4
     enum-told-5
     enum-told-6
-    enum-told-7
     returns
     returns-2
     returns-3

@@ -1,0 +1,2 @@
+-- Tests of the profile statistic that no input fails. Definitions only.
+pub mod Unit
