@@ -1,7 +1,7 @@
 -- Of the statistic's four causes the last has no input, and the second only its first part: a quotient. For any sigmas and samples. Assumes nothing.
 use Prim.Native.Nat.{ℕ}
 use native.Mathlib.Omega.{arith}
-use mathlib.Core.Path.{_≡_, sym, _∙_}
+use mathlib.Core.Path.{_≡_, refl, sym, _∙_}
 use mathlib.Core.List.{List}
 use mathlib.Core.Bool.{Bool, true, false, false≢true}
 use lib.Ieee.{Float}
@@ -10,10 +10,12 @@ use Rattle.profile.specs.Four.{squaresOf, quotientsOf, rootsOf, largestOf, over
 use Rattle.profile.specs.Profile.{statisticBy}
 use Rattle.profile.specs.Causes.{passes, FirstFails, scaledRoots, rootsTest, slopeOf, lineTest, offEnergy, energyTest, testsBy, placeOf}
 use Rattle.profile.specs.declared.Statistic.the-variants.{Absent}
-use Rattle.profile.specs.declared.Absence.the-variants.{Quotients, Energy}
+use Rattle.profile.specs.declared.Absence.{Absence}
+use Rattle.profile.specs.declared.Absence.the-variants.{Samples, Quotients, Line, Energy}
 use Rattle.profile.proofs.ZeroSign.{statistic-same}
 use Rattle.profile.proofs.CausesLaws.{cause-is-first}
 use Rattle.unreached.specs.Unit.{Scaled}
+use Rattle.unreached.specs.Reached.{reached}
 use Rattle.unreached.proofs.RootsUsable.{roots-usable, scaled-unit, quotients-fit}
 use Rattle.unreached.proofs.Energy.{energies-usable}
 
@@ -53,3 +55,11 @@ module _ (sigmas l : List Float) where
     pub quotient-unusable : statisticBy p sigmas l ≡ Absent Quotients → allUsable quotients ≡ false
     unfolding placeOf
     quotient-unusable e = some-quotient (cause-is-first ours sigmas l Quotients (sym (statistic-same p allowed sigmas l) ∙ e))
+
+    -- a cause that is given is one of the first three
+    pub cause-reached : (w : Absence) → statisticBy p sigmas l ≡ Absent w → reached w ≡ true
+    unfolding reached
+    cause-reached Samples e = refl
+    cause-reached Quotients e = refl
+    cause-reached Line e = refl
+    cause-reached Energy e = absurd (never-energy e)

@@ -40,7 +40,7 @@ returns c = rw (c .before .why .given .1)
 
 returns-2 : tie.Need-returns-2
 unfolding value
-returns-2 c = rw (c .before .before .why2 .given .1, ← c .cause-of .ensures)
+returns-2 c = rw (c .before .before .why2 .given .1) (c .cause-of .ensures)
 
 returns-3 : tie.Need-returns-3
 unfolding value
