@@ -34,10 +34,19 @@ static void set_t(uint8_t set[URAMSHEG_SET_BYTES]) {
     for (int i = 0; i < 9; i++) set[516 + i] = (uint8_t)i;
 }
 
+/* Why a spot has no size, in words. */
+static const char *why(uint64_t cause) {
+    switch (cause) {
+    case URAMSHEG_NO_SIZE_POLARITY: return "no size: the curve is not one of this polarity";
+    case URAMSHEG_NO_SIZE_RANGE: return "no size: beyond the fitted range";
+    default: return "no size";
+    }
+}
+
 int main(void) {
     uint8_t set[URAMSHEG_SET_BYTES], out[URAMSHEG_SPOT_BYTES * 4], sized[URAMSHEG_SIZED_BYTES * 4];
-    float level[4][ROWS * COLS] = {{0}};
-    uint64_t found = 0, value = 0;
+    float level[4][ROWS * COLS] = {{0}}, corrected;
+    uint64_t found = 0, value = 0, cause = 0;
 
     set_t(set);
     level[0][4 * ROWS + 4] = 0.25f;
@@ -66,7 +75,15 @@ int main(void) {
         if (spot[48])
             printf("spot %" PRIu64 ", home pixel (%u, %u): size %g\n", i, row, col, get(spot, 10));
         else
-            printf("spot %" PRIu64 ", home pixel (%u, %u): no size\n", i, row, col);
+            printf("spot %" PRIu64 ", home pixel (%u, %u): %s\n", i, row, col, why(spot[49]));
     }
+
+    /* One spot's size by itself: the same samples and sigma, but as a minimum, give none, and the cause says why. */
+    refused = uramsheg_correct(set, sizeof set, -1, 4, 0, 0, 2, false, &corrected, &cause);
+    if (refused != URAMSHEG_REFUSED_NO_SIZE) {
+        printf("the correction answered %" PRIu32 "\n", refused);
+        return 1;
+    }
+    printf("as a minimum: %s\n", why(cause));
     return 0;
 }

@@ -23,6 +23,15 @@ static int fail(const char *what) {
     return 1;
 }
 
+/* Why a spot has no size, in words. */
+static const char *why(uint8_t cause) {
+    switch (cause) {
+    case URAMSHEG_NO_SIZE_POLARITY: return "no size: the curve is not one of this polarity";
+    case URAMSHEG_NO_SIZE_RANGE: return "no size: beyond the fitted range";
+    default: return "no size";
+    }
+}
+
 static size_t lost(const float *floats, size_t count) {
     size_t sum = 0;
     for (size_t i = 0; i < count; i++) sum += !isfinite(floats[i]);
@@ -84,7 +93,7 @@ int main(int count, char **words) {
         if (spot[48])
             printf("size %.2f\n", get(spot, 10));
         else
-            printf("no size\n");
+            printf("%s\n", why(spot[49]));
     }
     return 0;
 }

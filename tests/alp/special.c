@@ -1,4 +1,4 @@
-/* Makes levels from C: each refusal in its order, what is kept, how far a lost pixel reaches. Says what failed. */
+/* From C: levels, each refusal in its order, what is kept, how far a lost pixel reaches; the correction, why a size is missing. Says what failed. */
 #define _XOPEN_SOURCE 700
 #include <math.h>
 #include <stdint.h>
@@ -13,7 +13,7 @@ static const float kept = -7.25f;
 static int failures = 0;
 
 static void expect(const char *name, bool holds) {
-    printf("%s C levels: %s\n", holds ? "ok" : "FAILED", name);
+    printf("%s C %s\n", holds ? "ok" : "FAILED", name);
     failures += !holds;
 }
 
@@ -81,7 +81,7 @@ static void refusals(void) {
                 for (int set = 0; set < 3; set++)
                     for (int level = 0; level < 5; level++)
                         holds = holds && refused_first((wrong){sides[side][0], sides[side][1], off, octaves[octave], set, level});
-    expect("the first refusal is answered, and it writes nothing", holds);
+    expect("levels: the first refusal is answered, and it writes nothing", holds);
 }
 
 /* Which pixels of level k of a map of rows by cols with one pixel lost are at most radius off it: exactly those are not finite, the others as before. */
@@ -133,6 +133,54 @@ static size_t stack_taken(void) {
     return sizeof stack - kept_bytes;
 }
 
+/* A float at a word of a record. */
+static void put(uint8_t *record, int word, float x) {
+    memcpy(record + 4 * word, &x, 4);
+}
+
+/* Document 01's set T, as far as the correction reads it: the curve is b t^2 + c t, b and c the first two samples less the last. */
+static void set_t(uint8_t set[URAMSHEG_SET_BYTES]) {
+    static const float sigmas[4] = {1, 2, 3, 4}, numbers[11] = {1, 0.5f, -4, 4, 0.5f, 16, 0.5f, 1, 0.125f, 0.5f, 1};
+    set_of(set, sigmas);
+    for (int row = 1; row < 4; row++) put(set, 16 + 3 * row + row - 1, 1);
+    for (int i = 0; i < 11; i++) put(set, 118 + i, numbers[i]);
+}
+
+/* A spot of the samples b, c, 0, 0, and what its correction answers. */
+typedef struct { float b, c, sigma; bool is_max; uint32_t number; uint64_t cause; } spot;
+
+/* Whether the correction of each spot answers its number and its cause, and writes *corrected exactly where it gives a size. */
+static bool corrects(const uint8_t *set, size_t set_length, size_t count, const spot *spots) {
+    bool holds = true;
+    for (const spot *s = spots; s < spots + count; s++) {
+        float corrected = kept;
+        uint64_t cause = 77;
+        uint32_t number = uramsheg_correct(set, set_length, s->b, s->c, 0, 0, s->sigma, s->is_max, &corrected, &cause);
+        holds = holds && number == s->number && cause == s->cause && all_are(&corrected, 0, 1, kept) == (number != 0);
+    }
+    return holds;
+}
+
+static void corrections(void) {
+    static const spot sized[] = {{-1, 4, 2, true, 0, 0}, {-1, 4, 16, true, 0, 0}};
+    static const spot refused[] = {{-1, 4, 2, true, 4, 0}, {-1, 4, 2, false, 4, 0}, {-1, 12, 16, true, 4, 0}};
+    /* of the other polarity, and beyond the range too; too weak; not finite */
+    static const spot first[] = {{-1, 4, 2, false, 7, 1}, {-1, 12, 16, false, 7, 1}, {-0.25f, 4, 2, true, 7, 1}, {-1, 4, NAN, true, 7, 1}, {-1, INFINITY, 2, true, 7, 1}};
+    static const spot second[] = {{-1, 12, 16, true, 7, 2}, {-1, 4, 64, true, 7, 2}};
+    static const spot none_of_infinity = {1e-45f, -3e38f, 2, false, 7, 2};
+    uint8_t set[URAMSHEG_SET_BYTES], still[URAMSHEG_SET_BYTES], bad[URAMSHEG_SET_BYTES];
+    set_t(set);
+    set_t(still);
+    set_t(bad);
+    for (int i = 0; i < 3; i++) put(still, (int[]){119, 124, 125}[i], 0); /* curvature epsilon, blend beta and boost */
+    bad[527] = 1;
+    expect("correction: a size with cause 0", corrects(set, sizeof set, 2, sized));
+    expect("correction: 4 with cause 0, no size written", corrects(bad, sizeof bad, 3, refused) && corrects(set, sizeof set - 1, 3, refused));
+    expect("correction: 7 with cause 1, no size written", corrects(set, sizeof set, 5, first));
+    expect("correction: 7 with cause 2, no size written", corrects(set, sizeof set, 2, second) && corrects(still, sizeof still, 1, &none_of_infinity));
+    expect("correction: the causes are the header's", URAMSHEG_NO_SIZE_POLARITY == 1 && URAMSHEG_NO_SIZE_RANGE == 2);
+}
+
 int main(void) {
     static const float sigmas[4] = {1, 2, 3, 4}, wide[4] = {1, 5, 5.25f, 1e20f};
     static const size_t radii[4] = {3, 6, 9, 12}, later[4] = {1, 4, 8, 12}, most[4] = {3, 15, 16, 16};
@@ -144,11 +192,12 @@ int main(void) {
     for (int i = 0; i < 35; i++) raw[i] = (float)(i * i % 17);
 
     refusals();
+    corrections();
 
     made a = make(set, sizeof set, 5, 7, 0, raw, 35, exact), b = make(set, sizeof set, 5, 7, 0, raw, 35, longer);
     bool holds = a.answer == 0 && b.answer == 0;
     for (int k = 0; k < 4; k++) holds = holds && !memcmp(a.level[k], b.level[k], sizeof raw) && all_are(b.level[k], 35, longer[k], kept);
-    expect("a longer buffer is kept past the pixels", holds);
+    expect("levels: a longer buffer is kept past the pixels", holds);
     drop(a);
     drop(b);
 
@@ -158,13 +207,13 @@ int main(void) {
         for (int k = 0; k < 4; k++) holds = holds && a.answer == 0 && all_are(a.level[k], 0, 1, zero);
         drop(a);
     }
-    expect("a map of one pixel, -0, stays -0", holds);
+    expect("levels: a map of one pixel, -0, stays -0", holds);
 
     a = make(set, sizeof set, 0, 4096, 0, raw, 0, none);
     b = make(set, sizeof set, 4096, 0, 0, raw, 0, one);
     holds = a.answer == 0 && b.answer == 0;
     for (int k = 0; k < 4; k++) holds = holds && all_are(b.level[k], 0, 1, kept);
-    expect("an empty map is taken, and nothing is written", holds);
+    expect("levels: an empty map is taken, and nothing is written", holds);
     drop(a);
     drop(b);
 
@@ -176,9 +225,9 @@ int main(void) {
             holds = holds && reaches(set, 0, row, col, lost, radii) && reaches(set, 5, row, col, lost, later) && reaches(broad, 0, row, col, lost, most);
         }
     }
-    expect("a lost pixel reaches its radius and no further", holds);
+    expect("levels: a lost pixel reaches its radius and no further", holds);
 
     size_t taken = stack_taken();
-    expect("at most 50 KB of stack are taken", deep_answer == 0 && taken <= 50 * 1024);
+    expect("levels: at most 50 KB of stack are taken", deep_answer == 0 && taken <= 50 * 1024);
     return failures != 0;
 }

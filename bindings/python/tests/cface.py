@@ -11,7 +11,7 @@ SIGNATURES = {
     "uramsheg_levels": [OCTETS, SIZE, SIZE, SIZE, SIZE, *[FLOATS, SIZE] * 5],
     "uramsheg_detect": [OCTETS, SIZE, *[FLOAT] * 5, SIZE, SIZE, SIZE, *[FLOATS, SIZE] * 4, OCTETS, SIZE, U64],
     "uramsheg_join": [OCTETS, SIZE, SIZE, SIZE, OCTETS, SIZE, OCTETS, SIZE, U64],
-    "uramsheg_correct": [OCTETS, SIZE, *[FLOAT] * 5, c.c_bool, FLOATS],
+    "uramsheg_correct": [OCTETS, SIZE, *[FLOAT] * 5, c.c_bool, FLOATS, U64],
     "uramsheg_octave_count": [SIZE, SIZE],
     "uramsheg_downsample": [SIZE, SIZE, FLOATS, SIZE, FLOATS, SIZE, U64, U64],
     "uramsheg_set_check": [OCTETS, SIZE],
@@ -59,9 +59,10 @@ def join(record, shape, listed, room):
 
 
 def correct(record, samples, sigma, is_max):
-    """The number and the corrected sigma."""
-    corrected = FLOAT(-1)
-    return library.uramsheg_correct(*octets(record), *samples, sigma, is_max, corrected), corrected.value
+    """The number, the corrected sigma, which is -1 before the call, and the cause."""
+    corrected, cause = FLOAT(-1), c.c_uint64(77)
+    number = library.uramsheg_correct(*octets(record), *samples, sigma, is_max, corrected, cause)
+    return number, corrected.value, cause.value
 
 
 def downsample(level):

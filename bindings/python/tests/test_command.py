@@ -6,6 +6,7 @@ import sys
 from pathlib import Path
 
 import blob
+import kinds
 import numpy as np
 import pytest
 import rasterio
@@ -43,6 +44,13 @@ def test_a_list_for_people(here, capsys):
     assert ran(capsys, "detect", "map.npy", "-q") == (0, "", "")
 
 
+def test_a_spot_without_a_size_says_why(here, capsys):
+    np.save("three.npy", kinds.RAW)
+    (here / "three.set").write_bytes(kinds.tables().to_bytes())
+    lines = ran(capsys, "detect", "three.npy", "--set", "three.set", "--peak", "5")[1].splitlines()[2:5]
+    assert lines[0].endswith("2.19 px  bright") and lines[1].endswith(f"none  bright  {u.NO_SIZE[2]}") and lines[2].endswith(f"none  bright  {u.NO_SIZE[1]}")
+
+
 def test_files_and_the_numbers_of_the_run(here, capsys):
     np.save("noisy.npy", RAW + np.random.default_rng(3).normal(size=RAW.shape))
     assert ran(capsys, "detect", "noisy.npy", "--snr", "8", "--ground", "1.5", "-o", "{name}.csv", "--picture", "{name}.png")[0] == 0
@@ -59,6 +67,7 @@ def test_geojson_says_how_it_was_found(here, capsys):
     about = json.loads(Path("spots.geojson").read_text())["uramsheg"]
     assert about["map"] == "map.tif" and about["set"] == "standard" and about["version"] == u.__version__ and [one["octave"] for one in about["judged"]] == [0, 1]
     assert about["thresholds"] == {"peak": 10, "snr": None, "curvature": 0, "ratio": 12.1, "window": [1.9027314, 4.1498866]} and about["kind"] == "bright"
+    assert about["causes"] == {"1": u.NO_SIZE[1], "2": u.NO_SIZE[2]}
     words = ("detect", "map.tif", "--window", "1.9", "inf", "--peak", "10", "-o", "spots.geojson", "--report", "spots.html", "-q")
     assert ran(capsys, *words) == (0, "", "") and json.loads(Path("spots.geojson").read_text())["uramsheg"]["thresholds"]["window"] == [1.9, "inf"]
     assert "1.9 to inf" in Path("spots.html").read_text()
@@ -71,7 +80,7 @@ def test_small_holes_are_filled_on_request(here, capsys, monkeypatch):
     assert ran(capsys, "detect", "holes.npy", "--peak", "10", "-o", "a.csv")[1].startswith("holes.npy: 0 spots; ground ")
     out = ran(capsys, "detect", "holes.npy", "--peak", "10", "--fill", "4", "-o", "b.csv")[1]
     assert out.startswith("holes.npy: 1 spot; ground ") and out.splitlines()[0].endswith("; 1 lost pixels filled")
-    assert Path("b.csv").read_text().splitlines()[1].endswith(",True")
+    assert Path("b.csv").read_text().splitlines()[1].endswith(",True,0")
     drawn = []
     monkeypatch.setattr(command, "draw", lambda to, given, found: drawn.append(given.values))
     assert ran(capsys, "detect", "holes.npy", "--peak", "10", "--fill", "16", "--picture", "a.png")[1].startswith("holes.npy: 2 spots; ground ")

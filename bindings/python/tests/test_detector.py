@@ -31,7 +31,7 @@ def test_map_m(m):
     assert spots.tobytes() == m.line
     (sized,) = u.join(spots, m.set, m.shape)
     assert (sized["x"], sized["y"], sized["sigma"], sized["peak"], sized["key"]) == (4.5, 4, 2, 4, 44)
-    assert (sized["row"], sized["col"], sized["accepted"], sized["is_max"]) == (4, 5, True, True)
+    assert (sized["row"], sized["col"], sized["accepted"], sized["cause"], sized["is_max"]) == (4, 5, True, 0, True)
     assert f"{sized['size']:.6f}" == "2.828427"
 
 
@@ -128,15 +128,43 @@ def test_downsample(shape, seed, dress):
 
 
 FLOATS = st.floats(width=32)
+SAMPLES = st.one_of(st.floats(-20, 20, width=32), st.sampled_from([-1.0, 0.0, 4.0]))
+#: samples and sigma of a spot: any floats, and such as a spot may have
+ANY = st.tuples(st.tuples(*[FLOATS] * 4), FLOATS)
+USUAL = st.tuples(st.tuples(*[SAMPLES] * 4), st.floats(0.25, 64, width=32))
 
 
-@given(st.tuples(FLOATS, FLOATS, FLOATS, FLOATS), FLOATS, st.booleans(), st.sampled_from(sorted(SETS)))
-def test_correct(samples, sigma, is_max, name):
-    number, value = cface.correct(SETS[name], samples, sigma, is_max)
+def corrected(samples, name, sigma, is_max):
+    """What the package's correction comes to, as the C face tells it: the number, the corrected sigma or -1, the cause."""
     try:
-        assert (number, value) == (0, u.correct(samples, SETS[name], sigma, is_max))
-    except u.NoSizeRefused:
-        assert number == 7
+        return 0, u.correct(samples, SETS[name], sigma, is_max), 0
+    except u.NoSizeRefused as error:
+        return error.number, -1, error.cause
+
+
+@given(st.one_of(ANY, USUAL), st.booleans(), st.sampled_from(sorted(SETS)))
+def test_correct(spot, is_max, name):
+    samples, sigma = spot
+    assert corrected(samples, name, sigma, is_max) == cface.correct(SETS[name], samples, sigma, is_max)
+
+
+@given(st.lists(st.tuples(USUAL, st.booleans()), max_size=9), st.sampled_from(sorted(SETS)))
+def test_the_join_gives_each_spot_the_correction_s_size_or_cause(spots, name):
+    records = np.zeros(len(spots), u.SPOT)
+    for record, ((samples, sigma), is_max) in zip(records, spots):
+        record["samples"], record["sigma"], record["is_max"], record["scale_index"] = samples, sigma, is_max, 1
+    sized = u.join(records, SETS[name], (1, 1))
+    assert sized.tobytes() == cface.join(SETS[name], (1, 1), records.tobytes(), 52 * len(spots))[2] and not sized["spare_sized"].any()
+    for record, ((samples, sigma), is_max) in zip(sized, spots):
+        number, size, cause = corrected(samples, name, sigma, is_max)
+        assert (record["accepted"], record["size"], record["cause"]) == (number == 0, 0 if number else size, cause)
+
+
+@pytest.mark.parametrize("name", sorted(SETS))
+def test_the_spots_of_the_property_are_of_all_three_kinds(name):
+    rng = np.random.default_rng(8)
+    causes = [corrected(rng.uniform(-20, 20, 4).astype("f4"), name, rng.uniform(0.25, 64), True)[2] for _ in range(200)]
+    assert {causes.count(cause) > 5 for cause in (0, 1, 2)} == {True}
 
 
 def test_correct_gives_the_join_s_size(m):

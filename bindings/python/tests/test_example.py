@@ -66,16 +66,27 @@ def test_the_raw_map_is_what_its_maker_makes():
     assert subprocess.run([sys.executable, RAW / "raw.py"], capture_output=True, check=True).stdout == (RAW / "raw.csv").read_bytes()
 
 
-def test_the_raw_map_s_levels_spots_and_sizes_are_those_that_c_and_rust_print():
-    raw, tables = np.loadtxt(RAW / "raw.csv", delimiter=","), u.standard()
+def printed(raw, four, spots):
+    """The lines that the examples in C and Rust print."""
     rows, cols = raw.shape
-    four = u.levels(raw, tables)
-    spots = u.join(u.detect(four, tables, u.Thresholds(peak=50)), tables, raw.shape)
     lines = [f"{rows} rows by {cols} cols, {(~np.isfinite(raw)).sum()} lost"]
     lines += [f"level {k}: {np.nanmin(level):.2f} to {np.nanmax(level):.2f}, {(~np.isfinite(level)).sum()} lost" for k, level in enumerate(four)]
     lines += [f"{'maximum' if spot['is_max'] else 'minimum'} at x {spot['x']:.2f}, y {spot['y']:.2f}, home pixel ({spot['row']}, {spot['col']}): "
-              f"sigma {spot['sigma']:.2f}, peak {spot['peak']:.1f}, size {spot['size']:.2f}" for spot in spots]
-    assert lines == (cface.ROOT / "tests" / "alp" / "raw.expected").read_text().splitlines()
+              f"sigma {spot['sigma']:.2f}, peak {spot['peak']:.1f}, " + u.NO_SIZE.get(spot["cause"], f"size {spot['size']:.2f}") for spot in spots]
+    return lines
+
+
+def expected(name):
+    """The lines that C's output is compared with."""
+    return (cface.ROOT / "tests" / "alp" / name).read_text().splitlines()
+
+
+def test_the_raw_map_s_levels_spots_and_sizes_are_those_that_c_and_rust_print():
+    raw, tables = np.loadtxt(RAW / "raw.csv", delimiter=","), u.standard()
+    four = u.levels(raw, tables)
+    found = u.detect(four, tables, u.Thresholds(peak=50))
+    spots, limited = u.join(found, tables, raw.shape), u.join(found, tables.replace(curvature_epsilon=65, accepted_sigma_max=2.25), raw.shape)
+    assert printed(raw, four, spots) == expected("raw.expected") and printed(raw, four, limited) == expected("causes.expected")
     *plumes, (x, y, *_) = runpy.run_path(str(RAW / "raw.py"))["PLUMES"]
     assert len(spots) == len(plumes) and not scene.judged(four)[y, x]
     for x, y, size, height in plumes:

@@ -1,5 +1,6 @@
 """From raw maps of known spots to the table."""
 import blob
+import kinds
 import numpy as np
 import pytest
 import xarray
@@ -20,7 +21,7 @@ def test_one_row_says_all():
     assert (spot["map_x"], spot["map_y"]) == (pytest.approx(600000 + 5 * 40.8, abs=0.05), pytest.approx(5000000 - 5 * 33.9, abs=0.05))
     assert spot["size"] == pytest.approx(2.6, rel=0.01) and spot["size_m"] == pytest.approx(5 * spot["size"])
     assert spot["height"] == pytest.approx(100, rel=0.05) == -2 * spot["peak"]
-    assert spot["bright"] and not spot["near_lost"] and spot["octave"] == 0 and (spot["row"], spot["col"]) == (33, 40)
+    assert spot["bright"] and not spot["near_lost"] and spot["cause"] == 0 and spot["octave"] == 0 and (spot["row"], spot["col"]) == (33, 40)
 
 
 @pytest.mark.parametrize("octave", [0, 1, 2])
@@ -97,6 +98,15 @@ def test_noise_alone_has_no_spot_of_eight_times_the_noise():
     assert len(u.find(noise, kind="both").spots) == 0
     low = u.find(noise, snr=3, kind="both").spots
     assert len(low) > 10 and low["snr"].min() >= 3 and {True, False} == set(low["bright"].tolist())
+
+
+def test_a_spot_without_a_size_says_why():
+    found = kinds.found(grid=u.Grid((5, 0, 0, 0, -5, 0), metres=1))
+    assert found.spots["cause"].tolist() == kinds.CAUSES
+    for spot, (x, y, size, height) in zip(found.spots, kinds.SPOTS):
+        assert (spot["x"], spot["y"], spot["height"]) == (pytest.approx(x, abs=0.02), pytest.approx(y, abs=0.02), pytest.approx(height, rel=0.05))
+        assert np.isnan([spot["size"], spot["size_m"]]).all() if spot["cause"] else spot["size"] == pytest.approx(size, rel=0.01)
+    assert found.to_pandas()["cause"].tolist() == found.to_xarray()["cause"].values.tolist() == kinds.CAUSES
 
 
 def test_strongest_first_and_kinds():

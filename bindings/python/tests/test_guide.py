@@ -6,6 +6,7 @@ import cface
 import numpy as np
 import plain
 import pytest
+from hypothesis import given, strategies as st
 
 import uramsheg as u
 
@@ -50,6 +51,35 @@ def test_an_even_slope_does_not_matter():
     (flat,), (steep,) = (u.find(raw + slope * (cols - 2 * rows), peak=10).spots for slope in (0, 10))
     for name in ("x", "y", "size", "height"):
         assert steep[name] == pytest.approx(flat[name], rel=1e-4)
+
+
+def test_a_rough_ground_has_spots_without_a_size():
+    """Each pixel the sum of all noise above and before it; under the set standard."""
+    spots = np.concatenate([u.find(np.cumsum(np.cumsum(noise, axis=0), axis=1)).spots for noise in NOISES])
+    assert len(spots) > 2000 and 0 < (spots["cause"] == 1).mean() < 0.02 and set(spots["cause"]) == {0, 1} and spots["snr"][spots["cause"] == 1].max() > 40
+
+
+def test_noise_alone_has_sizes():
+    spots = np.concatenate([u.find(noise, peak=1e-3).spots for noise in NOISES])
+    assert len(spots) > 500 and not spots["cause"].any()
+
+
+SAMPLES = st.one_of(st.floats(width=32, allow_nan=False, allow_infinity=False), st.floats(-20, 20, width=32))
+WINDOW = u.Thresholds(0)[3:]
+
+
+@given(st.tuples(*[SAMPLES] * 4), st.floats(*np.float32(WINDOW).tolist(), width=32), st.booleans())
+def test_the_window_of_standard_lies_inside_its_range(samples, sigma, is_max):
+    """It goes on for more than the largest step, so that a spot of these sigmas has a size or no curve of its polarity."""
+    tables = u.standard()
+    for sigma_end, turn in zip(WINDOW, (-1, 1)):
+        end = np.log2(sigma_end / tables.log_sigma_origin) + turn * tables.move_cap
+        assert tables.fit_t_min < end < tables.fit_t_max
+        assert tables.accepted_sigma_min < tables.log_sigma_origin * 2**end < tables.accepted_sigma_max
+    try:
+        u.correct(samples, tables, sigma, is_max)
+    except u.NoSizeRefused as error:
+        assert error.cause == 1
 
 
 def test_white_noise():

@@ -6,6 +6,7 @@ from pathlib import Path
 
 import blob
 import fiona
+import kinds
 import numpy as np
 import pytest
 from rasterio.crs import CRS
@@ -64,6 +65,21 @@ def test_geopackage(tmp_path):
         assert CRS.from_wkt(source.crs_wkt).to_epsg() == 32632 and len(source) == 2
         for feature, spot in zip(source, spots.spots):
             assert feature["geometry"]["coordinates"] == (spot["map_x"], spot["map_y"]) and feature["properties"]["height"] == spot["height"]
+
+
+def test_causes(tmp_path):
+    """A number beside each spot, 0 where it has a size; where it has none the size is empty."""
+    paths = {ending: str(tmp_path / f"spots.{ending}") for ending in ("geojson", "csv", "gpkg")}
+    for path in paths.values():
+        output.save(path, kinds.found(grid=UTM))
+    rows = list(csv.DictReader(Path(paths["csv"]).read_text().splitlines()))
+    assert [row["cause"] for row in rows] == ["0", "2", "1"] and [bool(row["size_px"] and row["size_m"]) for row in rows] == [True, False, False]
+    features = json.loads(Path(paths["geojson"]).read_text())["features"]
+    with fiona.open(paths["gpkg"]) as source:
+        assert source.schema["properties"]["cause"].startswith("int")
+        for spots in (features, source):
+            named = [spot["properties"] for spot in spots]
+            assert [row["cause"] for row in named] == kinds.CAUSES and [row["size_px"] is None for row in named] == [False, True, True]
 
 
 @pytest.mark.parametrize("ending", ["geojson", "csv", "gpkg"])

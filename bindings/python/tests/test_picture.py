@@ -2,6 +2,7 @@
 import io
 
 import blob
+import kinds
 import numpy as np
 import pytest
 from matplotlib.image import imread
@@ -50,7 +51,17 @@ def test_circles_lie_where_the_spots_do(name):
         low, high = sorted(main.get_xlim()), sorted(main.get_ylim())
         assert low[0] < spot["map_x"] < low[1] and high[0] < spot["map_y"] < high[1]
     assert [text.get_text() for text in main.texts] == ["1", "2", "3", "4"] and main.get_title(loc="left").startswith("here: 4 spots")
+    assert main.get_title(loc="left").endswith("(circles of 2 sizes; hatched: lost)")
     assert image.shape == (430, 750, 4) and image[..., :3].std() > 0.05
+
+
+def test_a_spot_without_a_size_is_dashed_and_says_why():
+    found = kinds.found()
+    main, near, _ = axes_of(picture.page(maps.Map(kinds.RAW, u.Grid(), "ppb", "here"), found))
+    circles = [patch for patch in main.patches if isinstance(patch, Ellipse)]
+    assert main.get_title(loc="left").endswith("(circles of 2 sizes; dashed: no size; hatched: lost)")
+    assert [circle.get_linestyle() for circle in circles] == ["-", "--", "--"] and circles[1].width == pytest.approx(4 * found.spots["sigma"][1])
+    assert [[" ".join(text.get_text().split()) for text in axes.texts] for axes in near] == [[], [u.NO_SIZE[2]], [u.NO_SIZE[1]]]
 
 
 def test_rows_go_downward_in_pixels_and_northward_on_the_ground():

@@ -22,7 +22,7 @@ def test_the_places_are_the_header_s():
     said = {"x": r"(\d+) x,", "y": r"(\d+) y,", "sigma": r"(\d+) sigma,", "peak": r"(\d+) peak,", "samples": r"(\d+) 20 24 28 the four centre samples",
             "key": r"(\d+) order key u32", "octave": r"(\d+) octave,", "scale_index": r"(\d+) scale index", "is_max": r"(\d+) polarity",
             "spare": r"(\d+) zero\n", "size": r"(\d+) corrected sigma f32", "row": r"(\d+) home row u16", "col": r"(\d+) home col u16",
-            "accepted": r"(\d+) accepted", "spare_sized": r"(\d+) 50 51 zero"}
+            "accepted": r"(\d+) accepted", "cause": r"(\d+) cause", "spare_sized": r"(\d+) 51 zero"}
     assert {name: int(re.search(pattern, HEADER)[1]) for name, pattern in said.items()} == places
 
 
@@ -36,3 +36,11 @@ def test_chosen_records_keep_every_byte(m):
 def test_a_list_in_another_order_is_sized_as_well(m):
     spots = np.concatenate([u.detect(m.levels(), m.set, m.thresholds)] * 6)
     assert u.join(spots[::-2], m.set, m.shape).tobytes() == u.join(spots[:3], m.set, m.shape).tobytes()
+
+
+def test_records_that_were_kept_before_causes_were_given(m, tmp_path):
+    """numpy reads them as they were; the same bytes as SIZED have no cause."""
+    old = np.dtype(u.SPOT.descr + [("size", "<f4"), ("row", "<u2"), ("col", "<u2"), ("accepted", "?"), ("spare_sized", "u1", (3,))])
+    np.save(tmp_path / "old.npy", np.zeros(2, old))
+    kept = np.load(tmp_path / "old.npy").view(u.SIZED)
+    assert kept.dtype == u.SIZED and not kept["accepted"].any() and not kept["cause"].any()

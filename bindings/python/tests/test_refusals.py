@@ -1,5 +1,8 @@
 """Every refusal: its class, its number, its index, its words; and that it is the C face's own."""
+import copy
+import importlib.util
 import pickle
+from types import SimpleNamespace
 
 import cface
 import numpy as np
@@ -8,7 +11,7 @@ import pytest
 from hypothesis import given, strategies as st
 
 import uramsheg as u
-from uramsheg import refusals
+from uramsheg import _native, missing, refusals
 from uramsheg._native import lib
 
 T = cface.case("list")[0]
@@ -136,8 +139,38 @@ def test_2_of_levels_is_the_c_face_s_alone():
     assert [cface.levels(b"", M, 6, [0] * 4, shape)[0] for shape in ((9, 11), (9, 9), (90, 2), (0, 0), (4097, 1))] == [2, 2, 2, 2, 1]
 
 
-def test_7_no_size(m):
-    assert refused(u.NoSizeRefused, u.correct, (-1, 4, 0, 0), m.set, 2, False).number == 7
+@pytest.mark.parametrize("samples, sigma, is_max, cause, means", [
+    ((-1, 4, 0, 0), 2, False, 1, "bent the other way, too weakly, or not finite"), ((-0.25, 4, 0, 0), 2, True, 1, "bent the other way, too weakly, or not finite"),
+    ((-1, 12, 0, 0), 16, True, 2, "beyond the set's range of T or its accepted sigmas"), ((-1, 4, 0, 0), 64, True, 2, "beyond the set's range of T"),
+])
+def test_7_no_size(m, samples, sigma, is_max, cause, means):
+    error = refused(u.NoSizeRefused, u.correct, samples, m.set, sigma, is_max)
+    assert (error.number, error.cause, error.why, error.index) == (7, cause, u.NO_SIZE[cause], None)
+    assert str(error) == f"refused 7: {u.NO_SIZE[cause]} ({error.detail})" and means in error.detail
+
+
+def test_each_cause_of_the_header_has_the_words_of_the_other_faces():
+    assert {getattr(lib, name) for name in dir(lib) if name.startswith("URAMSHEG_NO_SIZE_")} == set(u.NO_SIZE) == set(missing.MEANS) == {1, 2}
+    for place in ("bindings/rust/src/missing.rs", "examples/detect.c", "examples/levels.c"):
+        assert all(f'"{words}"' in (cface.ROOT / place).read_text() for words in u.NO_SIZE.values())
+    for place in ("bindings/python/README.md", "docs/GUIDE.md"):
+        assert all(f"| {cause} | {words} |" in (cface.ROOT / place).read_text() for cause, words in u.NO_SIZE.items())
+    for cause in (0, 3, 257):
+        pytest.raises(RuntimeError, u.NoSizeRefused, cause)
+
+
+@pytest.mark.parametrize("module, name", [(missing, "URAMSHEG_NO_SIZE_NEW"), (refusals, "URAMSHEG_REFUSED_NEW")])
+def test_a_number_of_the_header_without_words_stops_the_import(monkeypatch, module, name):
+    def again():
+        """The module's own text, run as another module."""
+        spec = importlib.util.spec_from_file_location("uramsheg.again", module.__file__)
+        spec.loader.exec_module(importlib.util.module_from_spec(spec))
+
+    again()
+    numbers = {known: getattr(lib, known) for known in dir(lib) if known.startswith(("URAMSHEG_NO_SIZE_", "URAMSHEG_REFUSED_"))}
+    monkeypatch.setattr(_native, "lib", SimpleNamespace(**numbers, **{name: 99}))
+    with pytest.raises(ImportError, match=name):
+        again()
 
 
 @pytest.mark.parametrize("lost", [(0,), (1,), (2,), (3,), (4,), (0, 3), (0, 1, 2, 3, 4)])
@@ -158,10 +191,11 @@ def test_thresholds_that_are_no_numbers_are_the_c_face_s_matter(given):
         assert number == error.number and error.names == tuple(name for name, one in zip(u.Thresholds._fields, given) if one != one)
 
 
-@pytest.mark.parametrize("error", [u.SizeRefused("5000 by 3"), u.RecordsRefused("record 3", 3), u.ThresholdsRefused(["peak", "low"]), u.NoSizeRefused()])
+@pytest.mark.parametrize("error", [u.SizeRefused("5000 by 3"), u.RecordsRefused("record 3", 3), u.ThresholdsRefused(["peak", "low"]), u.NoSizeRefused(1),
+                                   u.NoSizeRefused(2)])
 def test_a_refusal_travels_between_processes(error):
-    again = pickle.loads(pickle.dumps(error))
-    assert (type(again), str(again), vars(again)) == (type(error), str(error), vars(error))
+    for again in (pickle.loads(pickle.dumps(error)), copy.copy(error)):
+        assert (type(again), str(again), vars(again), again.args) == (type(error), str(error), vars(error), error.args)
 
 
 def test_what_is_no_argument_is_no_refusal(m):

@@ -7,6 +7,7 @@ from html.parser import HTMLParser
 from pathlib import Path
 
 import blob
+import kinds
 import numpy as np
 import pytest
 
@@ -73,6 +74,7 @@ def test_what_stands_in_it(here):
     found = u.find(RAW, snr=20)
     assert [row[0] for row in spots[1:]] == ["1", "2", "3"] and [float(row[1]) for row in spots[1:]] == pytest.approx(found.spots["x"], abs=0.006)
     assert spots[0][5] == "size, m" and [row[5] for row in spots[1:]] == [""] * 3
+    assert spots[0][-1] == "why no size" and [row[-1] for row in spots[1:]] == [""] * 3
     numbers = dict(run)
     assert numbers["Version"] == f"uramsheg {u.__version__}" and numbers["Map"] == "a<b>&c.npy" and numbers["Set of tables"] == "standard"
     assert (numbers["Least peak"], numbers["Least signal to noise"], numbers["Kind"], numbers["Unit"]) == ("none", "20", "bright", "not stated")
@@ -150,6 +152,17 @@ def test_spots_without_a_size_come_last(here):
     for word in ("size_px", "-size_px"):
         rows = Page(shown(here, word=word)).tables[0][1:]
         assert rows[2][0] == "2" and rows[2][6] == ""
+
+
+def test_a_spot_without_a_size_says_why(here):
+    """In words that the table can be sorted by; those with a size come last."""
+    text = told(maps.Map(kinds.RAW, name="x"), kinds.found())
+    words = ["", u.NO_SIZE[2], u.NO_SIZE[1]]
+    assert [(row[6] == "", row[-1]) for row in Page(text).tables[0][1:]] == list(zip([False, True, True], words))
+    here.write_text(text)
+    assert [row[-1] for row in Page(shown(here, word="cause")).tables[0][1:]] == [*sorted(words[1:]), ""]
+    told_of = "".join(words for _, words in Page(text).texts)
+    assert all(words.removeprefix("no size: ").capitalize() in told_of for words in u.NO_SIZE.values())
 
 
 def test_a_report_of_no_spots_and_wrong_endings(tmp_path, monkeypatch, capsys):

@@ -20,7 +20,7 @@ def test_tiles_list_what_the_whole_map_lists(four, side):
     assert abs(records["y"] + corners[:, 0] - row).max() < 0.601 and abs(records["x"] + corners[:, 1] - col).max() < 0.601
     records = records[np.lexsort((records["is_max"], col, row))]
     assert len(whole) > 0 and np.array_equal(np.sort(row * cols + col), whole["key"])
-    for name in ("sigma", "peak", "samples", "octave", "scale_index", "is_max", "size", "accepted"):
+    for name in ("sigma", "peak", "samples", "octave", "scale_index", "is_max", "size", "accepted", "cause"):
         assert records[name].tobytes() == whole[name].tobytes()
 
 

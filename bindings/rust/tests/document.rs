@@ -3,7 +3,7 @@
 mod common;
 
 use common::set_t;
-use uramsheg::{Map, Refusal, SIZED_BYTES, SPOT_BYTES, SizedSpot, Spot, Thresholds};
+use uramsheg::{Map, Missing, Refusal, SIZED_BYTES, SPOT_BYTES, SizedSpot, Spot, Thresholds};
 
 const THRESHOLDS: Thresholds = Thresholds {
     peak: 1.0,
@@ -199,6 +199,7 @@ fn the_join_sizes_each_record_by_itself() {
     let SizedSpot {
         spot,
         size,
+        missing,
         row,
         col,
     } = sized[0];
@@ -206,12 +207,53 @@ fn the_join_sizes_each_record_by_itself() {
     let corrected = uramsheg::correct(&set_t(), spot.samples, spot.sigma, spot.is_max);
     assert_eq!(size, corrected.ok());
     assert!(size.is_some());
+    assert_eq!(missing, None);
+}
+
+/// Map M's record as bytes.
+fn record_of_m() -> [u8; SPOT_BYTES] {
+    let byte = |place: usize| u8::from_str_radix(&RECORD_OF_M[2 * place..2 * place + 2], 16);
+    core::array::from_fn(|place| byte(place).unwrap())
+}
+
+#[test]
+fn a_sized_record_says_why_its_size_is_missing() {
+    let whole = record_of_m();
+    let (mut turned, mut coarse) = (whole, whole);
+    turned[38] = 0;
+    coarse[8..12].copy_from_slice(&64.0f32.to_le_bytes());
+    for (record, last, missing) in [
+        (whole, [1, 0, 0, 0], None),
+        (turned, [0, 1, 0, 0], Some(Missing::Polarity)),
+        (coarse, [0, 2, 0, 0], Some(Missing::Range)),
+    ] {
+        let mut out = [0xa5; SIZED_BYTES];
+        assert_eq!(uramsheg::join(&set_t(), 9, 10, &record, &mut out), Ok(1));
+        assert_eq!(out[48..], last);
+        let SizedSpot {
+            spot,
+            size,
+            missing: read,
+            ..
+        } = SizedSpot::from_record(&out);
+        let corrected = uramsheg::correct(&set_t(), spot.samples, spot.sigma, spot.is_max);
+        assert_eq!((size, read), (corrected.ok(), missing));
+        assert_eq!(corrected.err(), missing.map(Refusal::NoSize));
+        assert_eq!(out[40..44] == [0; 4], missing.is_some());
+    }
+}
+
+#[test]
+fn a_record_from_before_causes_has_neither_a_size_nor_a_cause() {
+    let mut record = [0; SIZED_BYTES];
+    record[..SPOT_BYTES].copy_from_slice(&record_of_m());
+    let sized = SizedSpot::from_record(&record);
+    assert_eq!((sized.size, sized.missing), (None, None));
 }
 
 /// The home row and col that the join gives map M's record with another place in it, on the longest sides.
 fn home(x: f32, y: f32) -> (u16, u16) {
-    let byte = |place: usize| u8::from_str_radix(&RECORD_OF_M[2 * place..2 * place + 2], 16);
-    let mut record: [u8; SPOT_BYTES] = core::array::from_fn(|place| byte(place).unwrap());
+    let mut record = record_of_m();
     record[..4].copy_from_slice(&x.to_le_bytes());
     record[4..8].copy_from_slice(&y.to_le_bytes());
     let mut out = [0; SIZED_BYTES];
@@ -275,9 +317,41 @@ fn the_join_refuses_in_order() {
 #[test]
 fn correcting_map_m_as_a_minimum_gives_no_size() {
     let answer = uramsheg::correct(&set_t(), [-1.0, 4.0, 0.0, 0.0], 2.0, false);
-    assert_eq!(answer, Err(Refusal::NoSize));
+    assert_eq!(answer, Err(Refusal::NoSize(Missing::Polarity)));
     let bad = uramsheg::correct(&[], [-1.0, 4.0, 0.0, 0.0], 2.0, false);
     assert_eq!(bad, Err(Refusal::Set));
+}
+
+#[test]
+fn the_first_cause_that_applies_is_given() {
+    let correct = |samples, sigma, is_max| uramsheg::correct(&set_t(), samples, sigma, is_max);
+    let polarity = Err(Refusal::NoSize(Missing::Polarity));
+    let range = Err(Refusal::NoSize(Missing::Range));
+    // under set T the curve is b t^2 + c t with b and c the first two samples, and t goes to 4: from 16 its peak draws t on, beyond the range
+    assert_eq!(correct([-1.0, 12.0, 0.0, 0.0], 16.0, true), range);
+    assert!(correct([-1.0, 4.0, 0.0, 0.0], 16.0, true).is_ok());
+    // it leads beyond the range as well, but as a minimum it is bent the wrong way, and this is weak
+    assert_eq!(correct([-1.0, 12.0, 0.0, 0.0], 16.0, false), polarity);
+    assert_eq!(correct([-0.25, 12.0, 0.0, 0.0], 16.0, true), polarity);
+    assert_eq!(correct([-0.26, 12.0, 0.0, 0.0], 16.0, true), range);
+    // neither a sigma nor a sample that is no number has a place on a curve
+    assert_eq!(correct([-1.0, 4.0, 0.0, 0.0], f32::NAN, true), polarity);
+    assert_eq!(correct([-1.0, f32::NAN, 0.0, 0.0], 2.0, true), polarity);
+    assert_eq!(
+        correct([-1.0, f32::INFINITY, 0.0, 0.0], 2.0, true),
+        polarity
+    );
+}
+
+#[test]
+fn a_move_that_is_not_finite_is_beyond_the_range() {
+    // curvature epsilon, blend beta and boost 0: none of an infinite step is no number
+    let mut set = set_t();
+    for word in [119, 124, 125] {
+        set[4 * word..4 * word + 4].fill(0);
+    }
+    let answer = uramsheg::correct(&set, [1e-45, -3e38, 0.0, 0.0], 2.0, false);
+    assert_eq!(answer, Err(Refusal::NoSize(Missing::Range)));
 }
 
 #[test]
@@ -347,12 +421,46 @@ fn sets_are_checked() {
 #[test]
 fn refusals_have_their_numbers_and_words() {
     for number in 1..=8 {
-        let refusal = Refusal::from_number(number, 3).unwrap();
+        let refusal = Refusal::from_number(number, 2).unwrap();
         assert_eq!(refusal.number(), number);
         assert!(!refusal.to_string().is_empty());
     }
     assert_eq!(Refusal::from_number(0, 0), None);
     assert_eq!(Refusal::from_number(9, 0), None);
+    for cause in [0, 3, 257, usize::MAX] {
+        assert_eq!(Refusal::from_number(7, cause), None);
+    }
+}
+
+#[test]
+fn causes_have_their_numbers_and_words() {
+    for (number, cause, words) in [
+        (
+            1,
+            Missing::Polarity,
+            "no size: the curve is not one of this polarity",
+        ),
+        (2, Missing::Range, "no size: beyond the fitted range"),
+    ] {
+        assert_eq!(Missing::from_number(number), Some(cause));
+        assert_eq!(usize::from(cause.number()), number);
+        assert_eq!(
+            Refusal::from_number(7, number),
+            Some(Refusal::NoSize(cause))
+        );
+        assert_eq!(cause.to_string(), words);
+        assert_eq!(Refusal::NoSize(cause).to_string(), words);
+        // a spot without a size is told of in C as it is here
+        for source in [
+            include_str!("../../../examples/detect.c"),
+            include_str!("../../../examples/levels.c"),
+        ] {
+            assert!(source.contains(&format!("\"{words}\"")), "{words}");
+        }
+    }
+    for number in [0, 3, 257, usize::MAX] {
+        assert_eq!(Missing::from_number(number), None);
+    }
 }
 
 #[test]

@@ -3,6 +3,7 @@ from .detector import Thresholds, correct, detect, downsample, join, levels, oct
 from .filling import fill
 from .finding import FOUND, Found, Judged, find
 from .grid import Grid
+from .missing import NO_SIZE
 from .records import SET, SIZED, SPOT
 from .refusals import (
     LevelRefused,
@@ -22,7 +23,7 @@ size = join
 
 __version__ = "0.1.0"
 __all__ = [
-    "FOUND", "Found", "Grid", "Judged", "LevelRefused", "NoSizeRefused", "OctaveRefused", "RecordsRefused", "Refused", "RoomRefused", "SET", "SIZED",
-    "SPOT", "SetRefused", "SizeRefused", "Tables", "TablesFault", "Thresholds", "ThresholdsRefused", "correct", "detect", "downsample", "fill", "find",
-    "join", "levels", "octave_count", "read_set", "size", "standard",
+    "FOUND", "Found", "Grid", "Judged", "LevelRefused", "NO_SIZE", "NoSizeRefused", "OctaveRefused", "RecordsRefused", "Refused", "RoomRefused", "SET",
+    "SIZED", "SPOT", "SetRefused", "SizeRefused", "Tables", "TablesFault", "Thresholds", "ThresholdsRefused", "correct", "detect", "downsample", "fill",
+    "find", "join", "levels", "octave_count", "read_set", "size", "standard",
 ]

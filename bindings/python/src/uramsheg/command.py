@@ -11,6 +11,7 @@ from . import __version__, maps, output, progress
 from .detector import Thresholds, octave_count
 from .filling import fill
 from .finding import SNR, find
+from .missing import NO_SIZE
 from .options import parser
 from .refusals import Refused
 from .tables import TablesFault, load, standard
@@ -130,6 +131,7 @@ def about(path, given, found, filled, options):
         "kind": options.kind, "filled": filled,
         "thresholds": {"peak": options.peak, "snr": least, "curvature": options.curvature, "ratio": options.ratio, "window": list(options.window)},
         "judged": [{"octave": one.octave, "sigma_px": [one.low, one.high], "share": share(one)} for one in found.judged],
+        "causes": {str(cause): words for cause, words in NO_SIZE.items()},
     }
 
 
@@ -152,7 +154,8 @@ def lines_of(path, given, found, numbers, options):
         row = {name: values[place] for name, values in table.items()}
         size = "none" if row["size_px"] is None else f"{row['size_px']:.2f} px" if row["size_m"] is None else f"{row['size_m']:.1f} m"
         snr = "" if row["snr"] is None else f"{row['snr']:.1f}" if row["snr"] < 1e5 else f"{row['snr']:.3g}"
-        lines.append(f"{row['rank']:4d} {row['map_x']:14.4f} {row['map_y']:14.4f} {row['height']:10.4g} {snr:>8} {size:>10}  {row['kind']}")
+        line = f"{row['rank']:4d} {row['map_x']:14.4f} {row['map_y']:14.4f} {row['height']:10.4g} {snr:>8} {size:>10}  {row['kind']}"
+        lines.append(line + (f"  {NO_SIZE[row['cause']]}" if row["cause"] in NO_SIZE else ""))
     if count > 10:
         lines.append(f"... and {count - 10} more")
     judged = [f"{100 * share(one):.0f} % for sigmas {one.low:.3g} to {one.high:.3g} px" for one in found.judged]

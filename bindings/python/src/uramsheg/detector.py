@@ -6,7 +6,7 @@ import numpy as np
 from . import arrays
 from ._native import ffi, lib
 from .records import SIZED, SPOT
-from .refusals import LevelRefused, OctaveRefused, RecordsRefused, RoomRefused, SetRefused, SizeRefused, ThresholdsRefused, kind_of
+from .refusals import LevelRefused, NoSizeRefused, OctaveRefused, RecordsRefused, RoomRefused, SetRefused, SizeRefused, ThresholdsRefused, kind_of
 from .tables import Tables, faults, record_of
 
 
@@ -88,9 +88,9 @@ def join(spots, tables, shape, *, out=None):
     """Each spot with its size and its home pixel, an array of SIZED in the list's order.
 
     `spots` is what `detect` answers, or the bytes of such records; `shape` is the levels' rows and cols. A size comes from the four samples, the
-    sigma and the polarity in the spot's own record. `row` and `col` are the pixel nearest to y and x, a half to the larger; the one that the spot was
-    found at is key // cols, key % cols. `out`, a contiguous array of SIZED, is written to where it is given, and its first records are
-    answered.
+    sigma and the polarity in the spot's own record; where there is none, `cause` says why (NO_SIZE has the words). `row` and `col` are the pixel nearest
+    to y and x, a half to the larger; the one that the spot was found at is key // cols, key % cols. `out`, a contiguous array of SIZED, is written to
+    where it is given, and its first records are answered.
     """
     record = record_of(tables)
     listed = listed_bytes(spots)
@@ -118,15 +118,15 @@ def listed_bytes(spots):
 
 
 def correct(samples, tables, sigma, is_max):
-    """The corrected sigma of a spot with these four centre samples, this sigma and this polarity."""
+    """The corrected sigma of a spot with these four centre samples, this sigma and this polarity; NoSizeRefused says why it has none."""
     record = record_of(tables)
     four = [float(sample) for sample in samples]
     if len(four) != 4:
         raise TypeError(f"a spot has four samples, not {len(four)}")
-    corrected = ffi.new("float *")
-    number = lib.uramsheg_correct(record, len(record), *four, float(sigma), bool(is_max), corrected)
+    corrected, cause = ffi.new("float *"), ffi.new("uint64_t *")
+    number = lib.uramsheg_correct(record, len(record), *four, float(sigma), bool(is_max), corrected, cause)
     if number:
-        raise refusal(number, record=record)
+        raise refusal(number, cause[0], record=record)
     return corrected[0]
 
 
@@ -164,6 +164,8 @@ def refusal(number, value=0, *, record=b"", shapes=(), thresholds=(), octave=0, 
     if kind is RecordsRefused:
         whole, rest = divmod(listed, SPOT.itemsize)
         return kind(f"{listed} bytes are {whole} records and {rest} bytes more" if rest else f"record {value}", int(value))
+    if kind is NoSizeRefused:
+        return kind(int(value))
     if kind is SetRefused:
         return kind("; ".join(faults(record)))
     if kind is OctaveRefused:

@@ -8,11 +8,12 @@ from .detector import Thresholds, octave_count, read_set
 from .grid import Grid
 from .tables import standard
 
-#: a spot of a map: x, y, size and sigma in the map's pixels, 0 at the first pixel's centre; size is NaN where there is none; row and col are the map's
-#: pixel nearest to y and x, a half to the larger; key orders spots by the pixel that they were found at
+#: a spot of a map: x, y, size and sigma in the map's pixels, 0 at the first pixel's centre; size is NaN where there is none, and cause says why, a number
+#: of NO_SIZE, else 0; row and col are the map's pixel nearest to y and x, a half to the larger; key orders spots by the pixel that they were found at
 FOUND = np.dtype([
     ("x", "f8"), ("y", "f8"), ("map_x", "f8"), ("map_y", "f8"), ("size", "f8"), ("size_m", "f8"), ("height", "f8"), ("snr", "f8"),
     ("bright", "?"), ("near_lost", "?"), ("octave", "u1"), ("sigma", "f8"), ("peak", "f8"), ("row", "i4"), ("col", "i4"), ("key", "i8"),
+    ("cause", "u1"),
 ])
 #: the lowest signal to noise that is asked for where neither a peak nor another is given
 SNR = 8.0
@@ -161,6 +162,7 @@ def rows_of(records, corners, pixels, octave, unit):
     spots["key"] = pixels @ np.array([2**32, 1]) * step
     spots["sigma"] = records["sigma"].astype(float) * step
     spots["size"] = np.where(records["accepted"], records["size"].astype(float) * step, np.nan)
+    spots["cause"] = records["cause"]
     spots["peak"] = records["peak"].astype(float) * unit
     spots["height"] = -2 * spots["peak"]
     spots["bright"] = ~records["is_max"]

@@ -10,12 +10,13 @@ ENDINGS = (".geojson", ".json", ".csv", ".gpkg")
 
 
 def columns(found):
-    """The table for people, by name: rank 1 is the strongest peak; None where there is no number."""
+    """The table for people, by name: rank 1 is the strongest peak; None where there is no number. `cause` is 0 beside a size, else a number of NO_SIZE."""
     spots = found.spots
     named = {
         "rank": np.arange(1, len(spots) + 1), "x": spots["x"], "y": spots["y"], "map_x": spots["map_x"], "map_y": spots["map_y"],
         "kind": np.where(spots["bright"], "bright", "dark"), "height": spots["height"], "snr": spots["snr"], "size_px": spots["size"],
         "size_m": spots["size_m"], "sigma_px": spots["sigma"], "octave": spots["octave"], "near_lost": spots["near_lost"],
+        "cause": spots["cause"],
     }
     return {name: [plain(value) for value in values] for name, values in named.items()}
 
@@ -111,7 +112,7 @@ def write_gpkg(path, table, grid):
     import fiona
 
     os.unlink(path)
-    kinds = {"rank": "int", "octave": "int", "kind": "str", "near_lost": "bool"}
+    kinds = {"rank": "int", "octave": "int", "kind": "str", "near_lost": "bool", "cause": "int"}
     schema = {"geometry": "Point", "properties": {name: kinds.get(name, "float") for name in table}}
     reference = grid.crs.to_wkt() if grid.crs is not None else None
     with fiona.open(path, "w", driver="GPKG", layer="spots", schema=schema, crs_wkt=reference) as out:

@@ -1,9 +1,13 @@
 """The picture of a map and its spots: the map in ground coordinates with circles by size, the strongest close by, and what was judged at each size."""
+import textwrap
+
 import numpy as np
 from matplotlib.colors import ListedColormap
 from matplotlib.figure import Figure
 from matplotlib.patches import Ellipse, Rectangle
 from matplotlib.transforms import Affine2D
+
+from .missing import NO_SIZE
 
 BRIGHT, DARK, PAPER = "#c2255c", "#1971c2", "#f1f3f5"
 COLOURS = "YlOrBr"
@@ -21,7 +25,8 @@ def page(given, found):
     image = field(main, given, limits)
     circles(main, found, numbered=STRONGEST)
     count = len(found.spots)
-    title = f"{given.name}: {count} spot{'' if count == 1 else 's'} (circles of {SIZES:g} sizes; hatched: lost)"
+    dashed = "; dashed: no size" if np.isnan(found.spots["size"]).any() else ""
+    title = f"{given.name}: {count} spot{'' if count == 1 else 's'} (circles of {SIZES:g} sizes{dashed}; hatched: lost)"
     main.set_title(title, fontsize=11, loc="left", parse_math=False)
     bar = left.add_axes([0.3, 0.055, 0.45, 0.018])
     left.colorbar(image, cax=bar, orientation="horizontal", extend="both").set_label(given.unit or "value", fontsize=9, parse_math=False)
@@ -90,7 +95,7 @@ def circles(axes, found, numbered=0, own=True):
 
 
 def close(axes, given, found, place, limits):
-    """One spot close by, with its numbers."""
+    """One spot close by, with its numbers, and why it has no size where it has none."""
     spot = found.spots[place]
     half = max(6.0, 2.2 * radius(spot))
     ends = (limits[0], max(limits[1], found.ground + 1.05 * spot["height"])) if spot["bright"] else (min(limits[0], found.ground + 1.05 * spot["height"]), limits[1])
@@ -104,6 +109,9 @@ def close(axes, given, found, place, limits):
     axes.set_yticks([])
     size = "none" if np.isnan(spot["size"]) else f"{spot['size']:.2f} px" if np.isnan(spot["size_m"]) else f"{spot['size_m']:.1f} m"
     axes.set_title(f"{place + 1}.  height {spot['height']:.3g}\n     size {size}", fontsize=9, loc="left", linespacing=1.2)
+    if spot["cause"] in NO_SIZE:
+        box = {"boxstyle": "round,pad=0.2", "fc": "white", "ec": "none", "alpha": 0.8}
+        axes.text(0.5, 0.03, textwrap.fill(NO_SIZE[spot["cause"]], 24), fontsize=7.5, ha="center", transform=axes.transAxes, bbox=box)
     digits = 5 if given.grid.geographic else 1
     axes.set_xlabel(f"{spot['map_x']:.{digits}f}, {spot['map_y']:.{digits}f}", fontsize=7.5)
 

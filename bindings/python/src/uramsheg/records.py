@@ -21,8 +21,9 @@ SPOT = np.dtype([
     ("octave", "u1"), ("scale_index", "u1"), ("is_max", "?"), ("spare", "u1"),
 ])
 
-#: a spot with its size (0 where it has none: `accepted` is then false) and its home pixel: `row` and `col` nearest to y and x, a half to the larger
-SIZED = np.dtype(SPOT.descr + [("size", "<f4"), ("row", "<u2"), ("col", "<u2"), ("accepted", "?"), ("spare_sized", "u1", (3,))])
+#: a spot with its size (0 where it has none: `accepted` is then false, and `cause` says why, a number of NO_SIZE, else 0) and its home pixel: `row` and
+#: `col` nearest to y and x, a half to the larger
+SIZED = np.dtype(SPOT.descr + [("size", "<f4"), ("row", "<u2"), ("col", "<u2"), ("accepted", "?"), ("cause", "u1"), ("spare_sized", "u1", (2,))])
 
 for kind, width in ((SET, lib.URAMSHEG_SET_BYTES), (SPOT, lib.URAMSHEG_SPOT_BYTES), (SIZED, lib.URAMSHEG_SIZED_BYTES)):
     if kind.itemsize != width:

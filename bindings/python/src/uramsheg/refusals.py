@@ -1,5 +1,6 @@
 """Why a call was refused: one class a number of uramsheg.h."""
 from ._native import lib
+from .missing import MEANS, NO_SIZE
 
 
 class Refused(ValueError):
@@ -60,10 +61,18 @@ class RoomRefused(Refused):
 
 
 class NoSizeRefused(Refused):
-    """The spot has no size."""
+    """The spot has no size; `cause` is why, a number of NO_SIZE, `why` says it and `detail` what it means."""
 
     number = lib.URAMSHEG_REFUSED_NO_SIZE
-    why = "this spot has no size"
+    why = "no size"
+
+    def __init__(self, cause):
+        if cause not in NO_SIZE:
+            raise RuntimeError(f"libalp_c.a answered the cause {cause}, which uramsheg.h does not name: build both from one")
+        super().__init__(MEANS[cause])
+        self.args = (cause,)
+        self.cause = cause
+        self.why = NO_SIZE[cause]
 
 
 class ThresholdsRefused(Refused):

@@ -8,12 +8,13 @@ from string import Template
 import numpy as np
 
 from . import output, picture
+from .missing import NO_SIZE
 
 #: of each column of the table: its name in `output.columns`, its words, and how its numbers are written
 COLUMNS = (
     ("rank", "rank", "d"), ("map_x", "map x", ""), ("map_y", "map y", ""), ("height", "height", ".4g"), ("snr", "signal to noise", ".1f"),
     ("size_m", "size, m", ".2f"), ("size_px", "size, pixels", ".2f"), ("sigma_px", "sigma, pixels", ".2f"), ("octave", "octave", "d"),
-    ("kind", "kind", "s"), ("near_lost", "near lost", ""),
+    ("kind", "kind", "s"), ("near_lost", "near lost", ""), ("cause", "why no size", "s"),
 )
 
 
@@ -37,6 +38,7 @@ def page(given, found, numbers):
     parts = {name: escape(text) for name, text in parts.items()}
     digits = ".6f" if given.grid.geographic else ".2f"
     table = output.columns(found)
+    table["cause"] = [NO_SIZE.get(cause) for cause in table["cause"]]
     parts["heads"] = "".join(f'<th data-name="{name}"><button>{escape(words)}</button></th>' for name, words, _ in COLUMNS)
     parts["rows"] = "\n".join(f"<tr>{''.join(cell(table[name][place], how or digits) for name, _, how in COLUMNS)}</tr>" for place in range(count))
     parts["run"] = "\n".join(f"<tr><th>{escape(name)}</th><td>{escape(text)}</td></tr>" for name, text in run_of(numbers))
