@@ -1,34 +1,17 @@
--- The words of the claims about the causes of an absent statistic. Definitions only.
-use Prim.Native.Nat.{ℕ, zero, suc, _<_}
-use mathlib.Core.Path.{_≡_}
+-- The statistic's four tests, each asked for itself: the words of the claims about its causes. Definitions only.
+use Prim.Native.Nat.{ℕ}
 use mathlib.Core.List.{List, [], _∷_}
-use mathlib.Core.Bool.{Bool, true, false}
+use mathlib.Core.Bool.{Bool}
 use lib.Ieee.{Float}
 use Rattle.float.specs.Num.{_⊖_, _⊗_, _⊘_}
 use Rattle.fit.specs.Prims.{Prims}
 use Rattle.profile.specs.Four.{squaresOf, overOf, rootsOf, quotientsOf, meanOf, spreadOf, dotOf, energyOf, largestBy}
 use Rattle.profile.specs.Profile.{residualOf, usableSamples, usableRoots, usableLine, usableEnergy}
+use Rattle.profile.specs.Tests.{Test, _else_}
 use Rattle.profile.specs.declared.Absence.{Absence}
 use Rattle.profile.specs.declared.Absence.the-variants.{Samples, Quotients, Line, Energy}
-
--- ---- tests in an order
-
--- whether the test at a place passes, places counted from 0: past the end, it does
-unfoldable pub passes : List Bool → ℕ → Bool
-passes [] k = true
-passes (t ∷ ts) zero = t
-passes (t ∷ ts) (suc k) = passes ts k
-
--- the test at the place k fails, and each at an earlier place passes
-pub record FirstFails (tests : List Bool) (k : ℕ) : Type 0 where
-  pub fails : passes tests k ≡ false
-  pub earlier : (j : ℕ) → j < k → passes tests j ≡ true
-
--- each test passes
-pub record AllPass (tests : List Bool) : Type 0 where
-  pub passing : (k : ℕ) → passes tests k ≡ true
-
--- ---- the statistic's four, each asked for itself
+use Rattle.profile.specs.declared.Statistic.{Statistic}
+use Rattle.profile.specs.declared.Statistic.the-variants.{Absent}
 
 -- the scaled roots of the samples l under the sigmas
 unfoldable pub scaledRoots : Prims → List Float → List Float → List Float
@@ -56,12 +39,12 @@ offEnergy x z = energyOf (residualOf (spreadOf z) (slopeOf x z) (spreadOf x))
 unfoldable pub energyTest : List Float → List Float → Bool
 energyTest x z = usableEnergy (offEnergy x z) (energyOf z)
 
--- the four tests of the samples l under the sigmas, in the Rust's order
-unfoldable pub testsBy : Prims → List Float → List Float → List Bool
+-- the four tests of the samples l under the sigmas, in the Rust's order, each with its cause
+unfoldable pub testsBy : Prims → List Float → List Float → List (Test Statistic)
 testsBy p sigmas l =
     let x = squaresOf sigmas in
     let z = scaledRoots p sigmas l in
-    usableSamples l ∷ rootsTest p sigmas l ∷ lineTest x z ∷ energyTest x z ∷ []
+    (usableSamples l else Absent Samples) ∷ (rootsTest p sigmas l else Absent Quotients) ∷ (lineTest x z else Absent Line) ∷ (energyTest x z else Absent Energy) ∷ []
 
 -- what the statistic is where each test passes
 unfoldable pub quotientBy : Prims → List Float → List Float → Float

@@ -11,8 +11,11 @@ use Rattle.tables.specs.declared.Missing.{Missing}
 use Rattle.tables.specs.declared.Missing.the-variants.{Polarity, Range}
 use Rattle.fit.specs.Cubic.{_at_, coeffsOf, curvatureOf}
 use Rattle.fit.specs.Prims.{Prims}
+use Rattle.profile.specs.Tests.{Test, _else_}
 use Rattle.size.specs.Correct.{geometryOf, blendBetaBy, boundedOf, modelMoveOf, derivativeOf, placeOf, sigmaAt, chosenOf, trusted, inRange}
 use Rattle.size.specs.declared.Geometry.{Geometry}
+use Rattle.size.specs.declared.Corrected.{Corrected}
+use Rattle.size.specs.declared.Corrected.the-variants.{NoSize}
 
 -- a sigma is finite and lies in the accepted closed window
 pub record InWindow (g : Geometry) (sigma : Float) : Type 0 where
@@ -45,9 +48,9 @@ rangeTest p s l anchor =
     let end = placeOf g anchor ⊕ moveBy p s l anchor in
     inRange g (moveBy p s l anchor) end (sigmaAt g end)
 
--- the two, in the Rust's order
-unfoldable pub testsBy : Prims → Set → List Float → Float → Bool → List Bool
-testsBy p s l anchor isMax = trustedTest s l anchor isMax ∷ rangeTest p s l anchor ∷ []
+-- the two, in the Rust's order, each with its cause
+unfoldable pub testsBy : Prims → Set → List Float → Float → Bool → List (Test Corrected)
+testsBy p s l anchor isMax = (trustedTest s l anchor isMax else NoSize Polarity) ∷ (rangeTest p s l anchor else NoSize Range) ∷ []
 
 -- what the corrected sigma is where both pass
 unfoldable pub sigmaBy : Prims → Set → List Float → Float → Bool → Float

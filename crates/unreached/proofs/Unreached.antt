@@ -8,7 +8,8 @@ use lib.Ieee.{Float}
 use Rattle.fit.specs.Prims.{Prims, Allowed, ours}
 use Rattle.profile.specs.Four.{squaresOf, quotientsOf, rootsOf, largestOf, overOf, allUsable}
 use Rattle.profile.specs.Profile.{statisticBy}
-use Rattle.profile.specs.Causes.{passes, FirstFails, scaledRoots, rootsTest, slopeOf, lineTest, offEnergy, energyTest, testsBy, placeOf}
+use Rattle.profile.specs.Tests.{passes, FirstFails}
+use Rattle.profile.specs.Causes.{scaledRoots, rootsTest, slopeOf, lineTest, offEnergy, energyTest, testsBy, placeOf}
 use Rattle.profile.specs.declared.Statistic.the-variants.{Absent}
 use Rattle.profile.specs.declared.Absence.{Absence}
 use Rattle.profile.specs.declared.Absence.the-variants.{Samples, Quotients, Line, Energy}
