@@ -135,8 +135,10 @@ static void correct(void) {
     for (int i = 0; i < 4; i++) samples[i] = real();
     float sigma = real(), corrected = 0;
     bool is_max = number() == 1;
-    answer(uramsheg_correct(set.bytes, set.length, samples[0], samples[1], samples[2], samples[3], sigma, is_max, &corrected));
+    uint64_t cause = UINT64_MAX;
+    answer(uramsheg_correct(set.bytes, set.length, samples[0], samples[1], samples[2], samples[3], sigma, is_max, &corrected, &cause));
     answer(pattern_of(corrected));
+    answer(cause);
     free(set.bytes);
 }
 

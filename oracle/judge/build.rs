@@ -12,8 +12,9 @@ mod fixed_sets;
 mod substitutions;
 
 const PUBLISHED: [&str; 4] = ["scale_fit.rs", "reference.rs", "stream.rs", "blur.rs"];
-const DOCUMENT: [&str; 8] = [
+const DOCUMENT: [&str; 9] = [
     "admission.rs",
+    "causes.rs",
     "counting.rs",
     "entries.rs",
     "here.rs",

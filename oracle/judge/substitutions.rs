@@ -12,7 +12,7 @@ pub enum Substitution {
 use Substitution::{At, Call, Word};
 
 /// What the published text's own `use` of the tables gives way to.
-const NAMES: &str = "use crate::admission::admits;\nuse crate::counting::{self, let_pass, said};\nuse crate::here::{ByRules as _, SumByRules as _, here};\n";
+const NAMES: &str = "use crate::admission::admits;\nuse crate::causes::{self, no_size, no_statistic};\nuse crate::counting::{self, let_pass, said};\nuse crate::here::{ByRules as _, SumByRules as _, here};\n";
 
 pub const SCALE_FIT: &[Substitution] = &[
     // The set's names.
@@ -83,6 +83,26 @@ pub const SCALE_FIT: &[Substitution] = &[
     // Two functions shown to the rest of the crate.
     At("217.1+2 8df8623b6a7c", "pub(super) `old`"),
     At("338.1+2 5e52e0a61703", "pub(super) `old`"),
+    // Why there is no statistic, and why there is no size.
+    At("253.16+4 1a5cdbac9b27", "no_statistic(causes::SAMPLES)"),
+    At("260.16+4 1a5cdbac9b27", "no_statistic(causes::QUOTIENTS)"),
+    At("264.16+4 1a5cdbac9b27", "no_statistic(causes::ROOTS)"),
+    At(
+        "268.16+4 1a5cdbac9b27",
+        "no_statistic(causes::LARGEST_ROOT)",
+    ),
+    At(
+        "272.16+4 1a5cdbac9b27",
+        "no_statistic(causes::SCALED_ROOTS)",
+    ),
+    At("285.16+4 1a5cdbac9b27", "no_statistic(causes::LINE)"),
+    At("291.16+4 1a5cdbac9b27", "no_statistic(causes::ENERGIES)"),
+    At(
+        "297.9+4 f69d62a8f47b",
+        "no_statistic(causes::LAST_QUOTIENT)",
+    ),
+    At("399.16+4 1a5cdbac9b27", "no_size(causes::POLARITY)"),
+    At("415.16+4 1a5cdbac9b27", "no_size(causes::RANGE)"),
     // Why a candidate is rejected.
     At("487.8+16 c5bebd62093d", "said(counting::HESSIAN, `old`)"),
     At("488.12+16 cf6c6b454ebd", "said(counting::HESSIAN, `old`)"),

@@ -1,6 +1,7 @@
-//! Cases at an edge: a scene or a correction with one float put to a chosen value.
+//! Cases at an edge: a scene, a correction or a statistic with one float put to a chosen value.
 
 use crate::case::{Case, Scene};
+use crate::causes;
 use crate::families::{correct, lively};
 use crate::random::Random;
 use crate::sets::FLOATS;
@@ -18,8 +19,8 @@ pub const SET: usize = 5;
 /// The first place of the pixels, level by level.
 pub const PIXELS: usize = SET + FLOATS;
 
-/// The two families of edge cases.
-pub const EDGES: [&str; 2] = ["edge", "size-edge"];
+/// The families of edge cases.
+pub const EDGES: [&str; 4] = ["edge", "size-edge", "cause-edge", "statistic-edge"];
 
 /// The scene of an edge case, before its knob is turned: a small map, often with one spot at its middle.
 pub fn scene(seed: u64, number: usize) -> Scene {
@@ -48,6 +49,14 @@ pub fn correction(seed: u64, number: usize) -> Case {
     }
 }
 
+/// The correction or the statistic of an edge between two causes, or a cause and none, before its knob is turned.
+pub fn caused(family: &str, seed: u64, number: usize) -> Case {
+    if family == "statistic-edge" {
+        return causes::statistic(&mut Random::new(seed, 103, number as u64));
+    }
+    causes::correction(&mut Random::new(seed, 102, number as u64), number)
+}
+
 /// The float at a place of a scene.
 pub fn scene_float(scene: &mut Scene, place: usize) -> &mut f32 {
     let size = scene.rows * scene.cols;
@@ -65,31 +74,28 @@ pub fn turned_scene(seed: u64, number: usize, knob: Knob) -> Scene {
     scene
 }
 
-/// A correction with a knob turned.
-pub fn turned_correction(seed: u64, number: usize, knob: Knob) -> Case {
-    let mut case = correction(seed, number);
-    if let Case::Correct {
-        set,
-        samples,
-        sigma,
-        ..
-    } = &mut case
-    {
-        match knob.place as usize {
-            place @ 0..=3 => samples[place] = knob.value,
-            4 => *sigma = knob.value,
-            place => *set.float(place - SET) = knob.value,
-        }
+/// The float at a place of a correction or a statistic.
+pub fn float(case: &mut Case, place: usize) -> &mut f32 {
+    match (case, place) {
+        (Case::Correct { samples, .. }, 0..=3) => &mut samples[place],
+        (Case::Correct { sigma, .. }, 4) => sigma,
+        (Case::Inner { words, .. }, 0..=3) => &mut words[place],
+        (Case::Correct { set, .. } | Case::Inner { set, .. }, SET..) => set.float(place - SET),
+        (case, _) => panic!("{case:?} has no place {place}"),
     }
-    case
 }
 
 /// The case of an edge family with its knob turned.
 pub fn turn(family: &str, seed: u64, number: usize, knob: Knob) -> Case {
-    match family {
-        "edge" => Case::List {
-            input: turned_scene(seed, number, knob).input(),
-        },
-        _ => turned_correction(seed, number, knob),
-    }
+    let mut case = match family {
+        "edge" => {
+            return Case::List {
+                input: turned_scene(seed, number, knob).input(),
+            };
+        }
+        "size-edge" => correction(seed, number),
+        _ => caused(family, seed, number),
+    };
+    *float(&mut case, knob.place as usize) = knob.value;
+    case
 }

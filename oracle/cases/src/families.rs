@@ -1,6 +1,7 @@
 //! The families of cases: each case made from its family, a seed and a number.
 
 use crate::case::{Case, Scene};
+use crate::causes;
 use crate::homes;
 use crate::levels;
 use crate::limits;
@@ -15,7 +16,7 @@ use crate::turning;
 use crate::words::{self, FUNCTIONS};
 
 /// The families of cases. `inner` counts through the inner functions.
-pub const FAMILIES: [&str; 26] = [
+pub const FAMILIES: [&str; 28] = [
     "list",
     "detect",
     "join",
@@ -42,6 +43,8 @@ pub const FAMILIES: [&str; 26] = [
     "kernels",
     "blurs",
     "raw",
+    "causes",
+    "statistics",
 ];
 
 /// The case of a family with the given seed and number.
@@ -72,6 +75,8 @@ pub fn expand(family: &str, seed: u64, number: usize) -> Case {
         "kernels" => levels::kernel(random, number),
         "blurs" => levels::blur(random, number),
         "raw" => levels::chain(random, number),
+        "causes" => causes::correction(random, number),
+        "statistics" => causes::statistic(random),
         "overshoot" => overshoot::correction(random),
         "mirrored" => mirrored::correction(random),
         "cancelling" => rounding::cancelling(random),

@@ -1,6 +1,7 @@
 //! Seeded cases for the detector and its companions; they need nothing of the published text.
 
 pub mod case;
+pub mod causes;
 pub mod edges;
 pub mod families;
 pub mod homes;

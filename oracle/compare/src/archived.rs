@@ -33,25 +33,23 @@ pub fn octaves() -> bool {
     )
 }
 
-/// `count` corrections, half of them with steps past the stationary point.
+/// The families of corrections.
+const FAMILIES: [&str; 3] = ["correct", "overshoot", "causes"];
+
+/// `count` corrections, a third of them with steps past the stationary point, a third with a size missing most often.
 pub fn corrections(seed: u64, count: usize) -> bool {
     let begun = Instant::now();
     let (mut judge, mut archive) = (Judge::sound(), Archive::default());
     let (mut sizes, mut fault) = (0, None);
     for number in 0..count {
-        let family = ["correct", "overshoot"][number % 2];
-        let case = expand(family, seed, number / 2);
+        let family = FAMILIES[number % FAMILIES.len()];
+        let number = number / FAMILIES.len();
+        let case = expand(family, seed, number);
         let sound = answer(&mut judge, &case).unwrap_or_default();
         let given = answer(&mut archive, &case).unwrap_or_default();
         sizes += usize::from(sound.first() == Some(&0));
         if sound != given {
-            let words = || {
-                format!(
-                    "{family} {seed} {}: {}",
-                    number / 2,
-                    difference(&sound, &given)
-                )
-            };
+            let words = || format!("{family} {seed} {number}: {}", difference(&sound, &given));
             fault.get_or_insert_with(words);
         }
     }

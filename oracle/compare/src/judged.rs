@@ -4,7 +4,7 @@ use cases::levels::{FILL, TAPS, WIDEST};
 use cases::records::SPOT;
 use cases::{Raw, Scene, Set};
 use judge::{Answer, Kernel, Logs, Map, Pass, RawMap, Rules, inner, levels, steps};
-use subject::{Reply, Subject};
+use subject::{Correction, Reply, Subject};
 
 /// The judge under given rules, by its reference or its streaming pass.
 #[derive(Clone, Copy)]
@@ -178,15 +178,13 @@ impl Subject for Judge {
         samples: [f32; 4],
         sigma: f32,
         is_max: bool,
-    ) -> Option<Result<f32, u32>> {
-        Some(judge::correct(
-            self.rules,
-            self.logs,
-            &set_of(set),
-            samples,
-            sigma,
-            is_max,
-        ))
+    ) -> Option<Correction> {
+        let set = set_of(set);
+        let size = judge::correct(self.rules, self.logs, &set, samples, sigma, is_max);
+        Some(Correction {
+            size: size.map_err(|refusal| refusal.number),
+            cause: size.err().map_or(0, |refusal| refusal.cause),
+        })
     }
 
     fn octave_count(&mut self, rows: usize, cols: usize) -> Option<usize> {
@@ -367,8 +365,12 @@ fn refine(rules: Rules, set: &judge::Set, words: &[f32]) -> Vec<f32> {
 fn profile(rules: Rules, function: &str, set: &judge::Set, words: &[f32]) -> Option<Vec<f32>> {
     Some(match function {
         "profile_compatibility_statistic" => {
-            let statistic = inner::profile_compatibility_statistic(rules, set, four(words));
-            statistic.into_iter().collect()
+            match inner::profile_compatibility_statistic(rules, set, four(words)) {
+                Ok(statistic) => vec![statistic],
+                // No cause is 0, but a break may leave it out.
+                Err(0) => Vec::new(),
+                Err(cause) => vec![-f32::from(cause)],
+            }
         }
         "profile_beta_from_statistic" => {
             vec![inner::profile_beta_from_statistic(

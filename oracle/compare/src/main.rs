@@ -94,7 +94,11 @@ fn tally(seed: u64, times: usize) -> bool {
     let mut judge = Judge::sound();
     for family in plan::families() {
         plan::each(family, seed, times, |one| {
-            if let Some(sound) = answer(&mut judge, &one.case) {
+            judge::reset_returns();
+            let sound = answer(&mut judge, &one.case);
+            tally.add_returns(&judge::returns());
+            tally.add_kind(family, &one.case);
+            if let Some(sound) = sound {
                 tally.add(family, &one.case, &sound);
             }
         });
@@ -115,6 +119,11 @@ fn tally(seed: u64, times: usize) -> bool {
     let fired = (!admitted).then(|| "it fires".to_string());
     let missed = tally.radii_not_reached();
     let missed = (!missed.is_empty()).then(|| format!("no level has the radius {missed:?}"));
+    let [taken, untaken] = tally.odd_returns();
+    let taken = (!taken.is_empty()).then(|| format!("a case takes {taken:?}"));
+    let untaken = (!untaken.is_empty()).then(|| format!("no case takes {untaken:?}"));
+    let apart = tally.pairs_not_reached();
+    let apart = (!apart.is_empty()).then(|| format!("no edge parts {apart:?}"));
     own::told(
         "every-gate-rejects",
         fault,
@@ -124,6 +133,21 @@ fn tally(seed: u64, times: usize) -> bool {
         fired,
         "over all these cases",
     ) & own::told("every-radius-is-reached", missed, "1 to 16")
+        & own::told(
+            "five-returns-are-never-taken",
+            taken,
+            "roots, largest root, scaled roots, energies, last quotient",
+        )
+        & own::told(
+            "every-other-return-is-taken",
+            untaken,
+            "three of the statistic, two of the correction",
+        )
+        & own::told(
+            "every-two-answers-meet-at-an-edge",
+            apart,
+            "a size, causes 1 and 2; a statistic, causes 1 to 3",
+        )
 }
 
 /// A subject against the judge.

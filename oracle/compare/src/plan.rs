@@ -9,7 +9,7 @@ use subject::answer;
 use subject::stored::{Entry, Kept, Section};
 
 /// Cases of a family in a bounded run and in the stored list.
-pub const COUNTS: [(&str, usize); 25] = [
+pub const COUNTS: [(&str, usize); 27] = [
     ("list", 3000),
     ("detect", 1800),
     ("join", 1200),
@@ -35,10 +35,20 @@ pub const COUNTS: [(&str, usize); 25] = [
     ("kernels", 1600),
     ("blurs", 4 * PAIRS),
     ("raw", 300),
+    ("causes", 4000),
+    ("statistics", 4000),
 ];
 
-/// Scenes and corrections that are searched for edges, with the tries at each.
-pub const SEARCHES: [(&str, usize, usize); 2] = [("edge", 3000, 2), ("size-edge", 4000, 2)];
+/// Searches one case's edges: its seed, its number, and how often to try.
+type Search = fn(u64, usize, usize) -> Vec<Knob>;
+
+/// Scenes, corrections and statistics that are searched for edges, with the tries at each.
+pub const SEARCHES: [(&str, usize, usize, Search); 4] = [
+    ("edge", 3000, 2, search::scene_edges),
+    ("size-edge", 4000, 2, search::size_edges),
+    ("cause-edge", 1500, 2, search::cause_edges),
+    ("statistic-edge", 1500, 2, search::statistic_edges),
+];
 
 /// One case with what reruns it.
 pub struct Numbered {
@@ -58,12 +68,7 @@ pub fn each(family: &str, seed: u64, times: usize, mut take: impl FnMut(Numbered
             });
         }
     }
-    if let Some(&(_, count, tries)) = SEARCHES.iter().find(|entry| entry.0 == family) {
-        let search = if family == "edge" {
-            search::scene_edges
-        } else {
-            search::size_edges
-        };
+    if let Some(&(_, count, tries, search)) = SEARCHES.iter().find(|entry| entry.0 == family) {
         for number in 0..count * times {
             for knob in search(seed, number, tries) {
                 let case = turn(family, seed, number, knob);

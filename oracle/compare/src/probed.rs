@@ -2,6 +2,7 @@
 
 use crate::judged::Judge;
 use crate::own::told;
+use crate::plan;
 use cases::levels;
 use cases::words::FUNCTIONS;
 use cases::{Case, expand};
@@ -20,11 +21,12 @@ struct Seen {
 }
 
 /// The families of inner functions beside `inner`, each with the part of the count that it takes: a kernel and a blur are many floats' work.
-const FAMILIES: [(&str, usize); 6] = [
+const FAMILIES: [(&str, usize); 7] = [
     ("turning", 1),
     ("cancelling", 1),
     ("inflected", 1),
     ("floats", 1),
+    ("statistics", 1),
     ("kernels", 4),
     ("blurs", 32),
 ];
@@ -77,17 +79,37 @@ fn due(count: usize) -> Vec<(&'static str, usize)> {
 /// One worker's share of the cases.
 fn part(seed: u64, count: usize, worker: usize, workers: usize) -> All {
     let mut all = All::new();
+    let mut plain = |family: &str, number: usize| {
+        let label = || format!("{family} {seed} {number}");
+        one(expand(family, seed, number), label, &mut all);
+    };
     for number in (worker..FUNCTIONS.len() * count).step_by(workers) {
-        one("inner", seed, number, &mut all);
+        plain("inner", number);
     }
     for number in (worker..count).step_by(workers) {
         for (family, part) in FAMILIES {
             if number < count / part {
-                one(family, seed, number, &mut all);
+                plain(family, number);
             }
         }
     }
+    if worker == 0 {
+        edges(seed, count, &mut all);
+    }
     all
+}
+
+/// The edges between a statistic and its causes, once for every 500,000 of the count.
+fn edges(seed: u64, count: usize, all: &mut All) {
+    let family = "statistic-edge";
+    plan::each(family, seed, count.div_ceil(500_000), |edge| {
+        let (number, knob) = (edge.number, edge.knob);
+        one(
+            edge.case,
+            || format!("{family} {seed} {number} {knob:?}"),
+            all,
+        );
+    });
 }
 
 fn add(all: &mut All, (function, seen): (&'static str, Seen)) {
@@ -99,9 +121,8 @@ fn add(all: &mut All, (function, seen): (&'static str, Seen)) {
 }
 
 /// One case, counted under its function; the first that differs is told by its words' patterns.
-fn one(family: &str, seed: u64, number: usize, all: &mut All) {
+fn one(case: Case, label: impl Fn() -> String, all: &mut All) {
     let begun = Instant::now();
-    let case = expand(family, seed, number);
     let Some(given) = answer(&mut Probe, &case) else {
         return;
     };
@@ -122,7 +143,7 @@ fn one(family: &str, seed: u64, number: usize, all: &mut All) {
                 .map(|word| format!(" {:08x}", word.to_bits()))
                 .collect();
             let parted = difference(&sound, &given);
-            format!("{family} {seed} {number}:{patterns}: {parted}")
+            format!("{}:{patterns}: {parted}", label())
         });
     }
     seen.time += begun.elapsed();

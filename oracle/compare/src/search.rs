@@ -1,11 +1,11 @@
-//! Finds edges with the judge: the two neighbouring values of one float at which a spot or a size appears.
+//! Finds edges with the judge: the two neighbouring values of one float at which a spot or a size appears, or the cause of a missing one turns.
 
-use crate::judged::Judge;
-use cases::edges::{self, PIXELS, SET, scene_float, turned_correction};
+use crate::judged::{Judge, set_of};
+use cases::edges::{self, PIXELS, SET, scene_float};
 use cases::random::Random;
 use cases::records::SPOT;
 use cases::{Case, Knob, Scene};
-use subject::{Reply, Subject};
+use subject::{Reply, Subject, answer};
 
 /// A float's place among all floats, in order.
 fn rank(value: f32) -> i64 {
@@ -122,63 +122,67 @@ pub fn scene_edges(seed: u64, number: usize, tries: usize) -> Vec<Knob> {
     knobs
 }
 
-fn sized(case: &Case) -> bool {
-    let Case::Correct {
-        set,
-        samples,
-        sigma,
-        is_max,
-    } = case
-    else {
-        return false;
-    };
-    matches!(
-        Judge::sound().correct(set, *samples, *sigma, *is_max),
-        Some(Ok(_))
-    )
+/// What is answered to a correction or a statistic.
+#[derive(Clone, Copy, Debug, PartialEq, Eq, PartialOrd, Ord)]
+pub enum Kind {
+    Number,
+    Cause(u8),
+    BadSet,
 }
 
-/// The knobs of both sides of some edges of the correction with this seed and number.
-pub fn size_edges(seed: u64, number: usize, tries: usize) -> Vec<Knob> {
-    let random = &mut Random::new(seed, 201, number as u64);
-    let case = edges::correction(seed, number);
-    let (
-        Case::Correct {
-            set,
-            samples,
-            sigma,
-            ..
-        },
-        true,
-    ) = (&case, sized(&case))
-    else {
-        return Vec::new();
+/// The kind of the judge's answer to a correction or a statistic; of a set that is not good no statistic is asked.
+pub fn kind(case: &Case) -> Kind {
+    let (Case::Correct { set, .. } | Case::Inner { set, .. }) = case else {
+        panic!("{case:?} has no cause");
     };
+    if !set_of(set).good() {
+        return Kind::BadSet;
+    }
+    let given = answer(&mut Judge::sound(), case).unwrap_or_default();
+    match (case, &given[..]) {
+        (Case::Correct { .. }, [0, ..]) => Kind::Number,
+        (Case::Correct { .. }, [.., cause]) => Kind::Cause(*cause),
+        (_, &[a, b, c, d]) => match f32::from_le_bytes([a, b, c, d]) {
+            number if number >= 0.0 => Kind::Number,
+            cause => Kind::Cause(-cause as u8),
+        },
+        _ => panic!("{given:?} answers {case:?}"),
+    }
+}
+
+/// A float of a correction or a statistic: one of its own, or one of the set's that it is made with.
+fn place(random: &mut Random, case: &Case) -> usize {
+    match (random.below(3), case) {
+        (0, Case::Inner { .. }) => SET + random.below(4),
+        (_, Case::Inner { .. }) => random.below(4),
+        (0, _) => random.below(5),
+        (1, _) => SET + 16 + random.below(12),
+        _ => SET + 118 + random.below(11),
+    }
+}
+
+/// The knobs of both sides of some edges of a case: its own kind of answer, and another that is not left out.
+fn kind_edges(
+    random: &mut Random,
+    case: &Case,
+    tries: usize,
+    left_out: &[Kind],
+    ways: fn(&mut Random, f32) -> Vec<f32>,
+) -> Vec<Knob> {
+    let own = kind(case);
     let mut knobs = Vec::new();
     for _ in 0..tries {
-        let place = match random.below(3) {
-            0 => random.below(5),
-            1 => SET + 16 + random.below(12),
-            _ => SET + 118 + random.below(11),
+        let place = place(random, case);
+        let mut case = case.clone();
+        let value = *edges::float(&mut case, place);
+        let mut turned = |value: f32| {
+            *edges::float(&mut case, place) = value;
+            kind(&case)
         };
-        let value = match place {
-            0..=3 => samples[place],
-            4 => *sigma,
-            _ => *set.clone().float(place - SET),
-        };
-        let turned = |value: f32| {
-            turned_correction(
-                seed,
-                number,
-                Knob {
-                    place: place as u32,
-                    value,
-                },
-            )
-        };
-        let ways = ways_out(random, value);
-        if let Some(&lost) = ways.iter().find(|&&way| !sized(&turned(way))) {
-            let (inside, outside) = turning(value, lost, |value| sized(&turned(value)));
+        let other = |kind: Kind| kind != own && !left_out.contains(&kind);
+        let mut ways = ways(random, value).into_iter();
+        if let Some(lost) = ways.find(|&way| other(turned(way))) {
+            let (inside, outside) = turning(value, lost, |value| turned(value) == own);
             knobs.extend([inside, outside].map(|value| Knob {
                 place: place as u32,
                 value,
@@ -186,4 +190,37 @@ pub fn size_edges(seed: u64, number: usize, tries: usize) -> Vec<Knob> {
         }
     }
     knobs
+}
+
+/// The knobs of both sides of some edges of the correction with this seed and number, at which its size is lost.
+pub fn size_edges(seed: u64, number: usize, tries: usize) -> Vec<Knob> {
+    let random = &mut Random::new(seed, 201, number as u64);
+    let case = edges::correction(seed, number);
+    match kind(&case) {
+        Kind::Number => kind_edges(random, &case, tries, &[], ways_out),
+        _ => Vec::new(),
+    }
+}
+
+/// Values away from the present one, the infinities and its negative among them.
+fn all_ways(random: &mut Random, value: f32) -> Vec<f32> {
+    let mut ways = ways_out(random, value);
+    ways.extend([f32::INFINITY, f32::NEG_INFINITY, -value]);
+    let turn = random.below(ways.len());
+    ways.rotate_left(turn);
+    ways
+}
+
+/// The knobs of both sides of some edges of a correction, at which two of its causes meet, or a cause and a size.
+pub fn cause_edges(seed: u64, number: usize, tries: usize) -> Vec<Knob> {
+    let random = &mut Random::new(seed, 202, number as u64);
+    let case = edges::caused("cause-edge", seed, number);
+    kind_edges(random, &case, tries, &[Kind::BadSet], all_ways)
+}
+
+/// The same of a statistic.
+pub fn statistic_edges(seed: u64, number: usize, tries: usize) -> Vec<Knob> {
+    let random = &mut Random::new(seed, 203, number as u64);
+    let case = edges::caused("statistic-edge", seed, number);
+    kind_edges(random, &case, tries, &[Kind::BadSet], all_ways)
 }

@@ -1,6 +1,9 @@
-//! What a run of cases has reached: maps, spots, pixels with both polarities, spots at sigma 0, each gate's rejections, each radius of a level.
+//! What a run of cases has reached: maps, spots, pixels with both polarities, spots at sigma 0, each gate's rejections, each radius of a level, each return
+//! without a statistic or a size, each pair of answers that an edge parts.
 
 use crate::judged::Judge;
+use crate::search::{Kind, kind};
+use cases::causes::STATISTIC;
 use cases::levels::TAPS;
 use cases::records::SPOT;
 use cases::{Case, Scene};
@@ -19,9 +22,89 @@ pub struct Tally {
     both: usize,
     at_sigma_zero: usize,
     radii: [usize; TAPS],
+    returns: Vec<(&'static str, u64)>,
+    kinds: BTreeMap<(&'static str, Kind), usize>,
+    pairs: BTreeMap<(&'static str, [Kind; 2]), usize>,
+    side: Option<Kind>,
 }
 
+/// The returns that no input takes: crates/unreached has the proof.
+const UNREACHED: [&str; 5] = [
+    "statistic, roots",
+    "statistic, largest root",
+    "statistic, scaled roots",
+    "statistic, energies",
+    "statistic, last quotient",
+];
+
+/// The families at whose edges the kind of an answer turns.
+const EDGES: [&str; 3] = ["size-edge", "cause-edge", "statistic-edge"];
+
 impl Tally {
+    /// Counts the returns that the judge took in one case.
+    pub fn add_returns(&mut self, returns: &[(&'static str, u64)]) {
+        if self.returns.is_empty() {
+            return self.returns.extend_from_slice(returns);
+        }
+        for (sum, one) in self.returns.iter_mut().zip(returns) {
+            sum.1 += one.1;
+        }
+    }
+
+    /// Counts what is answered to a correction or a statistic, and what an edge parts: its two sides come one after the other.
+    pub fn add_kind(&mut self, family: &'static str, case: &Case) {
+        if !matches!(
+            case,
+            Case::Correct { .. }
+                | Case::Inner {
+                    function: STATISTIC,
+                    ..
+                }
+        ) {
+            return;
+        }
+        let here = kind(case);
+        *self.kinds.entry((family, here)).or_default() += 1;
+        if !EDGES.contains(&family) {
+            return;
+        }
+        self.side = match self.side {
+            None => Some(here),
+            Some(there) => {
+                let pair = [here.min(there), here.max(there)];
+                *self.pairs.entry((family, pair)).or_default() += 1;
+                None
+            }
+        };
+    }
+
+    /// The returns that were taken, of those that no input takes; and those that were not, of the others.
+    pub fn odd_returns(&self) -> [Vec<&'static str>; 2] {
+        [true, false].map(|unreached| {
+            let odd = |(place, count): &&(&str, u64)| {
+                UNREACHED.contains(place) == unreached && (*count > 0) == unreached
+            };
+            self.returns.iter().filter(odd).map(|one| one.0).collect()
+        })
+    }
+
+    /// The pairs of kinds that no edge parts: of a correction, and of a statistic.
+    pub fn pairs_not_reached(&self) -> Vec<(&'static str, [Kind; 2])> {
+        let kinds = [Kind::Number, Kind::Cause(1), Kind::Cause(2), Kind::Cause(3)];
+        let mut all = Vec::new();
+        for (family, kinds) in [("cause-edge", &kinds[..3]), ("statistic-edge", &kinds[..])] {
+            for (place, &one) in kinds.iter().enumerate() {
+                all.extend(
+                    kinds[place + 1..]
+                        .iter()
+                        .map(|&other| (family, [one, other])),
+                );
+            }
+        }
+        all.retain(|pair| !self.pairs.contains_key(pair));
+        all
+    }
+
     /// The radii, 1 to 16, that no level was made with.
     pub fn radii_not_reached(&self) -> Vec<usize> {
         (1..TAPS)
@@ -124,6 +207,15 @@ impl Tally {
         println!("levels by their radius, 0 to 16: {:?}", self.radii);
         for (gate, count) in judge::counts() {
             println!("rejected, {gate}: {count}");
+        }
+        for (place, count) in &self.returns {
+            println!("returns, {place}: {count}");
+        }
+        for ((family, kind), count) in &self.kinds {
+            println!("answers, {family}, {kind:?}: {count}");
+        }
+        for ((family, pair), count) in &self.pairs {
+            println!("edges, {family}, {pair:?}: {count}");
         }
     }
 }

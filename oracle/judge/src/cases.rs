@@ -43,7 +43,7 @@ fn corrected_as_minimum() -> String {
         false,
     ) {
         Ok(size) => format!("{size}\n"),
-        Err(number) => format!("refused {number}\n"),
+        Err(refusal) => format!("refused {}\n", refusal.number),
     }
 }
 

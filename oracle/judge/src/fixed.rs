@@ -39,6 +39,7 @@ pub fn time(index: usize, pass: Pass, map: Map) -> (f64, usize) {
     (seconds, spots.len())
 }
 
+/// The correction; why a size is missing this text doesn't say.
 pub fn correct(
     logs: Logs,
     index: usize,

@@ -1,8 +1,9 @@
 //! The published text's inner functions, one at a time, under a set and rules; under `Rules::Published` a clamp with bad bounds panics, as there.
 
 use super::{reference, scale_fit, stream};
-use crate::shims::extraction::ScaleSpaceKeypoint;
+use crate::causes;
 use crate::here::with;
+use crate::shims::extraction::ScaleSpaceKeypoint;
 use crate::{Logs, Rules, Set};
 
 pub type Cubic = [f32; 4];
@@ -137,9 +138,14 @@ pub fn refine_keypoint_2d(
     accepts
 }
 
-pub fn profile_compatibility_statistic(rules: Rules, set: &Set, samples: [f32; 4]) -> Option<f32> {
+/// The statistic, or one of its four causes.
+pub fn profile_compatibility_statistic(
+    rules: Rules,
+    set: &Set,
+    samples: [f32; 4],
+) -> Result<f32, u8> {
     under(rules, set, || {
-        scale_fit::profile_compatibility_statistic(&samples)
+        causes::statistic(|| scale_fit::profile_compatibility_statistic(&samples))
     })
 }
 

@@ -13,12 +13,13 @@ use shims::{extraction, math_compat};
 
 include!(concat!(env!("OUT_DIR"), "/generated.rs"));
 
+pub use causes::{reset_returns, returns};
 pub use counting::{counts, reset_counts};
 pub use entries::{correct, detect, downsample, join, octave_count_rule};
 pub use levels::{RawMap, detect_raw, levels};
 pub use list::list_program;
 pub use run::inner;
-pub use set::{Answer, Logs, Map, Pass, Rules, Set, Thresholds};
+pub use set::{Answer, Logs, Map, NoSize, Pass, Rules, Set, Thresholds};
 pub use whole::blurred::Kernel;
 
 /// The octave count by Rust's logarithm, as published.

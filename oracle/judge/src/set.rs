@@ -117,3 +117,10 @@ pub enum Answer {
     Done(usize),
     Refused { number: u32, index: usize },
 }
+
+/// Why a correction gives no size: 4, or 7 with its cause, 1 or 2; beside 4 the cause is 0.
+#[derive(Clone, Copy, PartialEq, Eq, Debug)]
+pub struct NoSize {
+    pub number: u32,
+    pub cause: u8,
+}

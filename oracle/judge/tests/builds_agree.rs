@@ -180,8 +180,9 @@ fn both_builds_correct_to_the_same_bits() {
                     .map(f32::to_bits);
                 let ours = judge::correct(Rules::Document, logs, &set, samples, sigma, is_max)
                     .map(f32::to_bits);
+                let without_cause = run.map_err(|refusal| refusal.number);
                 assert!(
-                    as_published == run && run == ours,
+                    as_published == without_cause && run == ours,
                     "{} case {case}",
                     fixed::NAMES[index]
                 );

@@ -1,6 +1,6 @@
 //! Numbers of documents 01 and 02, from the judge.
 
-use judge::{Answer, Logs, Map, Pass, RawMap, Rules, Set, Thresholds, inner, levels};
+use judge::{Answer, Logs, Map, NoSize, Pass, RawMap, Rules, Set, Thresholds, inner, levels};
 
 const RULES: [Rules; 2] = [Rules::Published, Rules::Document];
 
@@ -299,6 +299,120 @@ fn the_join_refuses_in_its_order_and_sizes_p9() {
         (Answer::Done(1), &record[..], &[4, 0, 5, 0][..])
     );
     assert_eq!((&out[49..52], &out[52..]), (&[0; 3][..], &[9; 8][..]));
+}
+
+/// The size that a set gives these samples, or the refusal's number and its cause, by both rules and both logarithms.
+fn corrected(set: &Set, samples: [f32; 4], sigma: f32, is_max: bool) -> Result<f32, (u32, u8)> {
+    let by = |rules, logs| judge::correct(rules, logs, set, samples, sigma, is_max);
+    let size = by(Rules::Document, Logs::Steps);
+    for (rules, logs) in RULES
+        .map(|rules| [(rules, Logs::Steps), (rules, Logs::Rust)])
+        .concat()
+    {
+        assert_eq!(by(rules, logs).err(), size.err());
+    }
+    size.map_err(|NoSize { number, cause }| (number, cause))
+}
+
+#[test]
+fn a_correction_tells_the_first_of_its_two_causes() {
+    let t = Set::t();
+    let spot = [-1.0, 4.0, 0.0, 0.0];
+    assert!(corrected(&t, spot, 2.0, true).is_ok());
+    assert_eq!(corrected(&t, spot, 2.0, false), Err((7, 1)));
+    for sigma in [0.0, -1.0, f32::INFINITY, f32::NAN] {
+        assert_eq!(corrected(&t, spot, sigma, true), Err((7, 1)));
+    }
+    // At T 2 the slope overflows, at T 1 it doesn't.
+    let steep = [1e38, 0.0, 0.0, 0.0];
+    assert!(corrected(&t, steep, 2.0, false).is_ok());
+    assert_eq!(corrected(&t, steep, 4.0, false), Err((7, 1)));
+    // As a maximum the spot goes to T 1.5.
+    let mut narrow = Set::t();
+    narrow.numbers[3] = 1.0;
+    assert_eq!(corrected(&narrow, spot, 2.0, true), Err((7, 2)));
+    assert_eq!(corrected(&narrow, spot, 2.0, false), Err((7, 1)));
+    let mut bad = narrow;
+    bad.order[0] = 9;
+    assert_eq!(corrected(&bad, spot, 2.0, false), Err((4, 0)));
+    // The raw step is infinite, and 0 times it no number.
+    let mut still = Set::t();
+    for place in [1, 6, 7] {
+        still.numbers[place] = 0.0;
+    }
+    let far = [1e-45, -3e38, 0.0, 0.0];
+    assert_eq!(corrected(&still, far, 2.0, false), Err((7, 2)));
+}
+
+#[test]
+fn set_ts_curvature_turns_polarity_into_range() {
+    let mut set = Set::t();
+    set.numbers[3] = -1.0;
+    // The curvature is twice the first sample, the epsilon 0.5.
+    let at = |first: f32, is_max| corrected(&set, [first, 0.0, 0.0, 0.0], 2.0, is_max);
+    assert_eq!(at(0.25, false), Err((7, 1)));
+    assert_eq!(at(0.25f32.next_up(), false), Err((7, 2)));
+    assert_eq!(at(-0.25, true), Err((7, 1)));
+    assert_eq!(at((-0.25f32).next_down(), true), Err((7, 2)));
+}
+
+#[test]
+fn a_statistic_tells_the_first_of_its_causes() {
+    let t = Set::t();
+    let mut tiny = Set::t();
+    tiny.sigmas[0] = 1e-10;
+    let least = f32::from_bits(1);
+    // One over two to the -128 overflows, one over the next float doesn't.
+    let over = f32::from_bits(0x0020_0000);
+    for (set, samples, expected) in [
+        (&t, [0.0, 1.0, 1.0, 1.0], Err(1)),
+        (&t, [1.0, 1.0, -0.0, 1.0], Err(1)),
+        (&t, [1.0, 1.0, 1.0, -1.0], Err(1)),
+        (&t, [f32::INFINITY, 1.0, 1.0, 1.0], Err(1)),
+        (&t, [1.0, f32::NAN, 1.0, 1.0], Err(1)),
+        (&t, [least, 1.0, 1.0, 1.0], Err(2)),
+        (&t, [-1.0, -1.0, -1.0, -least], Err(2)),
+        (&t, [over, 1.0, 1.0, 1.0], Err(2)),
+        (&tiny, [3e38, 1.0, 1.0, 1.0], Err(2)),
+        (&t, [over.next_up(), 1.0, 1.0, 1.0], Err(3)),
+        (&t, [1.0, 16.0, 81.0, 256.0], Err(3)),
+        (&t, [1.0, 4.0, 9.0, 16.0], Err(3)),
+        (&t, [1.0; 4], Ok(())),
+        (&t, [-1.0; 4], Ok(())),
+    ] {
+        for rules in RULES {
+            let statistic = inner::profile_compatibility_statistic(rules, set, samples);
+            assert_eq!(statistic.map(|_| ()), expected, "{samples:?}");
+            assert!(statistic.is_err() || statistic.is_ok_and(|number| number >= 0.0));
+        }
+    }
+}
+
+#[test]
+fn a_sized_record_tells_its_cause_in_its_first_spare_byte() {
+    let spot = record_of_m();
+    let (mut turned, mut far) = (spot.clone(), spot.clone());
+    turned[38] = 0;
+    far[8..12].copy_from_slice(&1e6f32.to_le_bytes());
+    let due = [
+        (&far, [0, 2, 0, 0]),
+        (&spot, [1, 0, 0, 0]),
+        (&turned, [0, 1, 0, 0]),
+        (&spot, [1, 0, 0, 0]),
+        (&turned, [0, 1, 0, 0]),
+        (&far, [0, 2, 0, 0]),
+    ];
+    let list: Vec<u8> = due
+        .iter()
+        .flat_map(|(record, _)| (*record).clone())
+        .collect();
+    let mut out = [9; 6 * 52];
+    let answer = judge::join(Logs::Steps, &Set::t(), 9, 10, &list, &mut out);
+    assert_eq!(answer, Answer::Done(6));
+    for ((_, end), record) in due.iter().zip(out.chunks_exact(52)) {
+        assert_eq!(record[48..], end[..]);
+        assert_eq!(record[40..44] == [0; 4], end[0] == 0);
+    }
 }
 
 /// The home row and col of a record with another place in it, on the longest sides.

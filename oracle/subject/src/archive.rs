@@ -2,7 +2,7 @@
 //! that page before every buffer and then behind it, and both must answer and leave the same.
 
 use crate::guarded::{Room, Side};
-use crate::{Reply, Subject};
+use crate::{Correction, Reply, Subject};
 use cases::{Raw, Scene, Set};
 use core::fmt::Debug;
 use uramsheg::{Map, Refusal, Thresholds};
@@ -58,6 +58,42 @@ fn parts(all: &[f32], rooms: [usize; 4]) -> [&[f32]; 4] {
 fn bytes<T: Copy>(numbers: &[T]) -> &[u8] {
     // SAFETY: u8 and f32, of which alone it is asked, have no unused bytes.
     unsafe { core::slice::from_raw_parts(numbers.as_ptr().cast(), size_of_val(numbers)) }
+}
+
+unsafe extern "C" {
+    fn uramsheg_correct(
+        set: *const u8,
+        set_length: usize,
+        s0: f32,
+        s1: f32,
+        s2: f32,
+        s3: f32,
+        sigma: f32,
+        is_max: bool,
+        corrected: *mut f32,
+        cause: *mut u64,
+    ) -> u32;
+}
+
+/// What the C function leaves in a cause that held another number: the wrapper hands it on beside 7 alone.
+fn raw_cause(set: &[u8], [s0, s1, s2, s3]: [f32; 4], sigma: f32, is_max: bool) -> u64 {
+    let (mut corrected, mut cause) = (0.0, u64::MAX);
+    // SAFETY: the pointer goes with the slice's own length, and neither `corrected` nor `cause` overlaps another.
+    unsafe {
+        uramsheg_correct(
+            set.as_ptr(),
+            set.len(),
+            s0,
+            s1,
+            s2,
+            s3,
+            sigma,
+            is_max,
+            &mut corrected,
+            &mut cause,
+        )
+    };
+    cause
 }
 
 impl Subject for Archive {
@@ -120,14 +156,21 @@ impl Subject for Archive {
         samples: [f32; 4],
         sigma: f32,
         is_max: bool,
-    ) -> Option<Result<f32, u32>> {
+    ) -> Option<Correction> {
         let record = set.record();
-        let bits = both_sides::<u8, _>(&mut [], |side, _| {
+        let (bits, cause) = both_sides::<u8, _>(&mut [], |side, _| {
             let set = self.set.lend(side, &record);
             let size = uramsheg::correct(set, samples, sigma, is_max);
-            size.map(f32::to_bits).map_err(Refusal::number)
+            let cause = raw_cause(set, samples, sigma, is_max);
+            if let Err(Refusal::NoSize(why)) = size {
+                assert_eq!(cause, u64::from(why.number()), "the wrapper's cause");
+            }
+            (size.map(f32::to_bits).map_err(Refusal::number), cause)
         });
-        Some(bits.map(f32::from_bits))
+        Some(Correction {
+            size: bits.map(f32::from_bits),
+            cause: u8::try_from(cause).unwrap_or(u8::MAX),
+        })
     }
 
     fn octave_count(&mut self, rows: usize, cols: usize) -> Option<usize> {

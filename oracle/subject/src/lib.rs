@@ -20,6 +20,13 @@ pub enum Reply {
     Refused { number: u32, index: usize },
 }
 
+/// An answer of the correction: a size or a refusal's number, and beside it the cause, 0 where there is none.
+#[derive(Clone, Copy, Debug, PartialEq)]
+pub struct Correction {
+    pub size: Result<f32, u32>,
+    pub cause: u8,
+}
+
 /// One implementation; a function it does not offer answers None.
 pub trait Subject {
     /// What the reports call it.
@@ -47,14 +54,14 @@ pub trait Subject {
         None
     }
 
-    /// The correction: a corrected sigma or a refusal number.
+    /// The correction: a corrected sigma or a refusal number, with the cause.
     fn correct(
         &mut self,
         _set: &Set,
         _samples: [f32; 4],
         _sigma: f32,
         _is_max: bool,
-    ) -> Option<Result<f32, u32>> {
+    ) -> Option<Correction> {
         None
     }
 
@@ -89,7 +96,7 @@ pub trait Subject {
         None
     }
 
-    /// An inner function on words: a bool is 1.0 or 0.0, an absent number is no word.
+    /// An inner function on words: a bool is 1.0 or 0.0, an absent number is no word, an absent statistic minus the number of its cause.
     fn inner(&mut self, _function: &str, _set: &Set, _words: &[f32]) -> Option<Vec<f32>> {
         None
     }
@@ -156,10 +163,14 @@ fn corrected(subject: &mut dyn Subject, case: &Case) -> Option<Vec<u8>> {
     else {
         return None;
     };
-    Some(match subject.correct(set, *samples, *sigma, *is_max)? {
+    let Correction { size, cause } = subject.correct(set, *samples, *sigma, *is_max)?;
+    let mut bytes = match size {
         Ok(size) => [&[0u8][..], &size.to_le_bytes()].concat(),
         Err(number) => [&[1u8][..], &number.to_le_bytes()].concat(),
-    })
+    };
+    // A cause of 0 adds nothing.
+    bytes.extend(Some(cause).filter(|&cause| cause != 0));
+    Some(bytes)
 }
 
 fn halved(subject: &mut dyn Subject, case: &Case) -> Option<Vec<u8>> {

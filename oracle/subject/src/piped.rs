@@ -1,6 +1,6 @@
 //! The detector's archive of another processor: `answerer` linked with it, run as a process that answers call by call over a pipe.
 
-use crate::{Reply, Subject};
+use crate::{Correction, Reply, Subject};
 use cases::{Raw, Scene, Set};
 use std::io::{BufReader, BufWriter, Read, Write};
 use std::process::{Child, ChildStdin, ChildStdout, Command, Stdio};
@@ -152,13 +152,15 @@ impl Subject for Piped {
         samples: [f32; 4],
         sigma: f32,
         is_max: bool,
-    ) -> Option<Result<f32, u32>> {
+    ) -> Option<Correction> {
         self.send(b"c");
         self.bytes(&set.record());
         self.patterns(&samples);
         self.patterns(&[sigma]);
         self.numbers(&[usize::from(is_max)]);
-        Some(self.answer(|piped| f32::from_bits(piped.next() as u32)))
+        let size = self.answer(|piped| f32::from_bits(piped.next() as u32));
+        let cause = u8::try_from(self.next()).unwrap_or(u8::MAX);
+        Some(Correction { size, cause })
     }
 
     fn octave_count(&mut self, rows: usize, cols: usize) -> Option<usize> {

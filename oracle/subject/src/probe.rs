@@ -203,11 +203,10 @@ pub fn probe_refine(set: &[u8], cubics: &[f32], spot: Fresh, ratio: f32, i: usiz
     }
 }
 
-/// The profile statistic of four samples, where there is one.
-pub fn probe_statistic(set: &[u8], samples: [f32; 4]) -> Option<f32> {
+/// The profile statistic of four samples, or minus the number of the cause why there is none.
+pub fn probe_statistic(set: &[u8], samples: [f32; 4]) -> f32 {
     let [l0, l1, l2, l3] = samples;
-    let statistic = unsafe { raw::probe_statistic(set.as_ptr(), set.len(), l0, l1, l2, l3) };
-    (!statistic.is_nan()).then_some(statistic)
+    unsafe { raw::probe_statistic(set.as_ptr(), set.len(), l0, l1, l2, l3) }
 }
 
 /// The part of a step that a statistic allows.
@@ -326,7 +325,7 @@ fn helper(function: &str, words: &[f32]) -> Option<Vec<f32>> {
 fn profile(function: &str, set: &[u8], words: &[f32]) -> Option<Vec<f32>> {
     let four = first(words);
     Some(match function {
-        "profile_compatibility_statistic" => probe_statistic(set, four).into_iter().collect(),
+        "profile_compatibility_statistic" => vec![probe_statistic(set, four)],
         "profile_beta_from_statistic" => vec![probe_beta(set, words.first().copied())],
         "profile_blend_beta" => vec![probe_blend(set, four)],
         "profile_bounded_move" => vec![probe_bounded(set, four[0], four[1])],

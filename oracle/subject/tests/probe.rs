@@ -55,7 +55,7 @@ fn a_refused_record_is_a_set_of_zeros() {
         assert_eq!(coefficients, [0.0, 0.0, 0.0, 8.0]);
         assert_eq!(probe_index(set, 0.5), 2);
         assert_eq!(probe_band(set, 2.0, true), 0.0);
-        assert_eq!(probe_statistic(set, FOUR), None);
+        assert_eq!(probe_statistic(set, FOUR), -2.0);
         assert_eq!(probe_beta(set, Some(1.0)), 0.0);
         assert_eq!(probe_bounded(set, 2.0, 3.0), 0.0);
         assert_eq!(probe_model(set, [1.0, 2.0, 3.0, 4.0, 5.0]), 5.0);
@@ -67,7 +67,7 @@ fn an_absent_statistic_takes_the_set_s_beta() {
     let set = Set::t();
     let record = &set.record();
     let mixed = [1.0, -1.0, 1.0, 1.0];
-    assert_eq!(probe_statistic(record, mixed), None);
+    assert_eq!(probe_statistic(record, mixed), -1.0);
     assert_eq!(probe_beta(record, None), set.numbers[6]);
     assert_eq!(probe_blend(record, mixed), set.numbers[6]);
 }

@@ -1,9 +1,10 @@
 //! The public entries of documents 01 and 02: the refusals in their order, then the published text.
 
+use crate::causes;
 use crate::here::with;
 use crate::record::{self, SIZED, SPOT, Spot};
 use crate::run::offered;
-use crate::{Answer, Logs, Map, Pass, Rules, Set, Thresholds, counting};
+use crate::{Answer, Logs, Map, NoSize, Pass, Rules, Set, Thresholds, counting};
 
 /// The longest side.
 pub const LONGEST: usize = 4096;
@@ -98,16 +99,17 @@ fn nearest(place: f32) -> u16 {
     (f64::from(place) + 0.5).floor() as u16
 }
 
-/// The spot record, its corrected sigma, its home pixel and whether a size was given.
+/// The spot record, its corrected sigma, its home pixel, whether a size was given, and why none was.
 fn sized(spot: &[u8]) -> [u8; SIZED] {
     let [x, y, sigma, _, samples @ ..] = record::floats(spot);
-    let size = offered::correct(&samples, sigma, record::is_max(spot));
+    let size = causes::size(|| offered::correct(&samples, sigma, record::is_max(spot)));
     let mut bytes = [0; SIZED];
     bytes[..SPOT].copy_from_slice(spot);
     bytes[SPOT..SPOT + 4].copy_from_slice(&size.unwrap_or(0.0).to_le_bytes());
     bytes[44..46].copy_from_slice(&nearest(y).to_le_bytes());
     bytes[46..48].copy_from_slice(&nearest(x).to_le_bytes());
-    bytes[48] = size.is_some() as u8;
+    bytes[48] = size.is_ok() as u8;
+    bytes[49] = size.err().unwrap_or(0);
     bytes
 }
 
@@ -131,7 +133,7 @@ pub fn join(
     Answer::Done(list.len() / SPOT)
 }
 
-/// The correction: 4 for a set that is not good, 7 where there is no size.
+/// The correction: 4 for a set that is not good, 7 with its cause where there is no size.
 pub fn correct(
     rules: Rules,
     logs: Logs,
@@ -139,14 +141,17 @@ pub fn correct(
     samples: [f32; 4],
     sigma: f32,
     is_max: bool,
-) -> Result<f32, u32> {
+) -> Result<f32, NoSize> {
     if !set.good() {
-        return Err(4);
+        return Err(NoSize {
+            number: 4,
+            cause: 0,
+        });
     }
-    with(rules, logs, set, || {
-        offered::correct(&samples, sigma, is_max)
-    })
-    .ok_or(7)
+    let size = with(rules, logs, set, || {
+        causes::size(|| offered::correct(&samples, sigma, is_max))
+    });
+    size.map_err(|cause| NoSize { number: 7, cause })
 }
 
 /// The octave count over whole numbers.
