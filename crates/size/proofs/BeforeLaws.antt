@@ -1,5 +1,5 @@
 -- No size has moved by the causes: less its cause, each answer is what it was, bit for bit. Assumes nothing.
-use mathlib.Core.Path.{_≡_, refl, ap, _∙_}
+use mathlib.Core.Path.{_≡_, refl}
 use mathlib.Core.List.{List}
 use mathlib.Core.Bool.{Bool, true, false, cond}
 use lib.Ieee.{Float, neg}

@@ -2,7 +2,7 @@
 use Prim.Native.Nat.{ℕ}
 use mathlib.Core.Path.{_≡_}
 use mathlib.Core.List.{List, [], _∷_}
-use mathlib.Core.Bool.{Bool, true, cond}
+use mathlib.Core.Bool.{Bool, true}
 use lib.Ieee.{Float, le, neg}
 use Rattle.float.specs.Small.{finite}
 use Rattle.float.specs.Num.{_⊕_, _⊘_}

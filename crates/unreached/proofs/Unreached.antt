@@ -1,12 +1,11 @@
 -- Of the statistic's four causes the last has no input, and the second only its first part: a quotient. For any sigmas and samples. Assumes nothing.
-use Prim.Native.Nat.{ℕ}
 use native.Mathlib.Omega.{arith}
 use mathlib.Core.Path.{_≡_, refl, sym, _∙_}
 use mathlib.Core.List.{List}
-use mathlib.Core.Bool.{Bool, true, false, false≢true}
+use mathlib.Core.Bool.{true, false, false≢true}
 use lib.Ieee.{Float}
 use Rattle.fit.specs.Prims.{Prims, Allowed, ours}
-use Rattle.profile.specs.Four.{squaresOf, quotientsOf, rootsOf, largestOf, overOf, allUsable}
+use Rattle.profile.specs.Four.{squaresOf, quotientsOf, allUsable}
 use Rattle.profile.specs.Profile.{statisticBy}
 use Rattle.profile.specs.Tests.{passes, FirstFails}
 use Rattle.profile.specs.Causes.{scaledRoots, rootsTest, slopeOf, lineTest, offEnergy, energyTest, testsBy, placeOf}
