@@ -2,8 +2,8 @@
 
 use crate::{Refusal, SIZED_BYTES, SPOT_BYTES, SizedSpot, Spot};
 
-/// A slice is passed as its start and its length.
-mod raw {
+/// The archive's functions as C has them, for the comparison: a slice is passed as its start and its length.
+pub mod raw {
     unsafe extern "C" {
         pub fn uramsheg_levels(
             set: *const u8,

@@ -10,6 +10,9 @@ mod refusal;
 mod spot;
 
 #[cfg(feature = "detector")]
+#[doc(hidden)]
+pub use detector::raw;
+#[cfg(feature = "detector")]
 pub use detector::{
     Map, Thresholds, check_set, correct, detect, downsample, four_levels, join, levels,
     octave_count, sized_spots, spots,

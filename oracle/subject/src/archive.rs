@@ -5,7 +5,7 @@ use crate::guarded::{Room, Side};
 use crate::{Correction, Reply, Subject};
 use cases::{Raw, Scene, Set};
 use core::fmt::Debug;
-use uramsheg::{Map, Refusal, Thresholds};
+use uramsheg::{Map, Refusal, Thresholds, raw};
 
 /// libalp_c.a, linked in.
 #[derive(Default)]
@@ -60,27 +60,12 @@ fn bytes<T: Copy>(numbers: &[T]) -> &[u8] {
     unsafe { core::slice::from_raw_parts(numbers.as_ptr().cast(), size_of_val(numbers)) }
 }
 
-unsafe extern "C" {
-    fn uramsheg_correct(
-        set: *const u8,
-        set_length: usize,
-        s0: f32,
-        s1: f32,
-        s2: f32,
-        s3: f32,
-        sigma: f32,
-        is_max: bool,
-        corrected: *mut f32,
-        cause: *mut u64,
-    ) -> u32;
-}
-
 /// What the C function leaves in a cause that held another number: the wrapper hands it on beside 7 alone.
 fn raw_cause(set: &[u8], [s0, s1, s2, s3]: [f32; 4], sigma: f32, is_max: bool) -> u64 {
     let (mut corrected, mut cause) = (0.0, u64::MAX);
     // SAFETY: the pointer goes with the slice's own length, and neither `corrected` nor `cause` overlaps another.
     unsafe {
-        uramsheg_correct(
+        raw::uramsheg_correct(
             set.as_ptr(),
             set.len(),
             s0,
