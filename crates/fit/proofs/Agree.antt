@@ -21,7 +21,7 @@ some : (n d : ℕ) → ltb (8796093 * 1 * d) (n * 2 ^ 43) ≡ true → 0 < n
 some n d h = omega (arith, ltb-true (8796093 * 1 * d) (n * 2 ^ 43) h)
 
 -- a number larger than 1e-6 in size is below zero exactly where it is not above it
-signs : (x : Float) → lt f1e-6 (absOf x) ≡ true → lt x f0 ≡ not (lt f0 x)
+pub signs : (x : Float) → lt f1e-6 (absOf x) ≡ true → lt x f0 ≡ not (lt f0 x)
 unfolding lt ofBits absOf
 signs nan h = absurd (false≢true h)
 signs (inf true) h = refl

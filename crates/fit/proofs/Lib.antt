@@ -3,3 +3,6 @@ pub mod Finite
 pub mod Agree
 pub mod CubicLaws
 pub mod BandLaws
+pub mod Owners
+pub mod Polarity
+pub mod Rival

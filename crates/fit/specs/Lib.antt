@@ -6,3 +6,4 @@ pub mod Envelope
 pub mod Extrema
 pub mod Band
 pub mod Owns
+pub mod Owned

@@ -11,3 +11,6 @@ pub mod SqrtClosest
 pub mod SmallClaims
 pub mod Finite
 pub mod Rises
+pub mod Signs
+pub mod One
+pub mod Denied

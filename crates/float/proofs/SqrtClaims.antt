@@ -113,7 +113,7 @@ bits-by : (m : ℕ) (e : ℤ) (n : ℕ) (d : ℤ) → inUnits m e ≡ inUnits n 
 unfolding toBits inUnits
 bits-by m e n d h = rw h
 
-same-value : (x y : Float) (a : ℕ) → T (fits binary32 x) → T (fits binary32 y) → HasValue x false a (2 ^ 149) → HasValue y false a (2 ^ 149) → x ≡ y
+pub same-value : (x y : Float) (a : ℕ) → T (fits binary32 x) → T (fits binary32 y) → HasValue x false a (2 ^ 149) → HasValue y false a (2 ^ 149) → x ≡ y
 same-value nan y a f g v w = absurd v
 same-value (inf s) y a f g v w = absurd v
 same-value (fin true m e) y a f g v w = absurd (true≢false (v .0))

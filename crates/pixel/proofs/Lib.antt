@@ -4,3 +4,5 @@ pub mod GateLaws
 pub mod RingLaws
 pub mod VerdictLaws
 pub mod StandsLaws
+pub mod OrderLaws
+pub mod RuleOut

@@ -58,7 +58,7 @@ pub fn gate(th: Thresholds, l: [f32; 4], k: [f32; 4], sigma: f32, peak: f32, is_
 }
 
 // The gates of a polarity's extreme of the envelope e.
-fn own_gate(th: Thresholds, l: [f32; 4], k: [f32; 4], e: Envelope, is_max: bool) -> bool
+pub fn own_gate(th: Thresholds, l: [f32; 4], k: [f32; 4], e: Envelope, is_max: bool) -> bool
     ensures { λ r. ⌜ r ≡ gateBy ours th l k (sigmaOf e «is_max») (peakOf e «is_max») «is_max» ⌝ }
 {
     gate(th, l, k, sigma_of(e, is_max), peak_of(e, is_max), is_max)

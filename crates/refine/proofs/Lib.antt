@@ -2,3 +2,4 @@
 mod LendRows
 pub mod RefineLaws
 pub mod LendLaws
+pub mod Rejected
