@@ -8,14 +8,13 @@ use mathlib.Core.List.{List, [], _++_}
 use lib.ListN.{length, length-append}
 use Rattle.record.specs.declared.Record.{Record}
 use Rattle.record.proofs.LayoutLaws.{lay-none, lay-append, length-lay}
+use lib.Ieee.{Float}
+use Rattle.pixel.specs.Verdict.{verdictOf}
 use Rattle.pixel.specs.declared.Verdict.{Verdict}
 use Rattle.pixel.specs.declared.Verdict.the-variants.{Listed, Nothing}
-use Rattle.pixel.specs.Stands.{settledOf}
-use Rattle.pixel.proofs.StandsLaws.{settled-verdict, hidden}
 use Rattle.samples.specs.Level.{Maps, nineAt}
-use Rattle.alp.specs.Inside.Marks.{standsAt, markOf}
+use Rattle.sweep.specs.Ruled.{verdictAt}
 use Rattle.alp.specs.Due.{judgeOf, listed, pixelDue, rowDue, rowsDue, Laid}
-use Rattle.alp.proofs.MarksLaws.{mark-zero}
 
 pub laid-none : {out : List ℕ} {n : ℕ} → Laid out out n n []
 laid-none = record { count = sym (add-zero _); bytes = sym (lay-none _ _) }
@@ -30,23 +29,17 @@ laid-append {a} {b} {c} {n} {m} {k} {rs} {ss} p q = record {
 pub laid-length : {a b : List ℕ} {n m : ℕ} {rs : List Record} → Laid a b n m rs → length b ≡ length a
 laid-length {a} {b} {n} {m} {rs} p = ap length (p .bytes) ∙ length-lay rs a n
 
+-- what the judgement over nine places answers of the map's
+pub judged-by : {v : Verdict} {nine : List (List Float)} (m : Maps) (row col : ℕ) (isMax : Bool) → nine ≡ nineAt m row col → v ≡ verdictOf (m .set) (m .thresholds) (m .frame) nine row col isMax → v ≡ judgeOf m row col isMax
+unfolding judgeOf
+judged-by m row col isMax e h = h ∙ ap (λ (k : List (List Float)). verdictOf (m .set) (m .thresholds) (m .frame) k row col isMax) e
+
 -- ---- pixels that list nothing
 
--- told rightly whether it stands out, a pixel lists its verdict
-pub settled-judged : (m : Maps) (row col : ℕ) (isMax stands : Bool) → stands ≡ standsAt m row col isMax
-    → settledOf (m .set) (m .thresholds) (m .frame) (nineAt m row col) row col isMax stands ≡ judgeOf m row col isMax
-unfolding judgeOf
-settled-judged m row col isMax stands h = rw h (settled-verdict (m .set) (m .thresholds) (m .frame) (nineAt m row col) row col isMax)
-
-hidden-here : (m : Maps) (row col : ℕ) (isMax : Bool) → standsAt m row col isMax ≡ false → judgeOf m row col isMax ≡ Nothing
-hidden-here m row col isMax h = sym (settled-judged m row col isMax false (sym h)) ∙ sym (hidden (m .set) (m .thresholds) (m .frame) (nineAt m row col) row col isMax false refl)
-
--- a pixel with the mark 0 lists nothing
-pub nothing-stands : (m : Maps) (row col : ℕ) → markOf m row col ≡ 0 → pixelDue m row col ≡ []
-unfolding pixelDue listed
-nothing-stands m row col h =
-    let none = mark-zero m row col h in
-    rw (hidden-here m row col false (none .0), hidden-here m row col true (none .1))
+-- one on which both verdicts are nothing
+pub nothing-listed : (m : Maps) (row col : ℕ) → ((isMax : Bool) → verdictAt m row col isMax ≡ Nothing) → pixelDue m row col ≡ []
+unfolding pixelDue listed judgeOf
+nothing-listed m row col h = rw (h false, h true)
 
 -- ---- how long the due list can be
 

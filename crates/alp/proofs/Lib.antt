@@ -1,5 +1,4 @@
 -- What the proofs cite, and what detection's promise settles.
-pub mod MarksLaws
 pub mod DueLaws
 pub mod DetectLaws
 pub mod RefusalsLaws

@@ -1,5 +1,4 @@
 // The detector's public face.
-mod marks; // marks.rt: the pixels that stand out
 mod candidates; // candidates.rt: the loops over the pixels
 
 ghost use mathlib.Core.Path.{_≡_};

@@ -25,3 +25,8 @@ unfolding cubicsOf
 cubics-place t [] i h = absurd (not-suc-le-zero h)
 cubics-place t (l ∷ ls) zero h = refl
 cubics-place t (l ∷ ls) (suc i) h = cubics-place t ls i (le-of-suc-le-suc h)
+
+pub length-cubics : (t : List Float) (ls : List (List Float)) → length (cubicsOf t ls) ≡ length ls
+unfolding cubicsOf
+length-cubics t [] = refl
+length-cubics t (l ∷ ls) = ap suc (length-cubics t ls)

@@ -19,6 +19,12 @@ pub enum Verdict {
     Nothing,
 }
 
+// What a pixel lists at both polarities: the minimum and the maximum.
+pub struct Listing {
+    pub low: Verdict,
+    pub high: Verdict,
+}
+
 // What a pixel's own samples tell: whether its gates pass as a minimum and as a maximum, and its envelope.
 pub struct Own {
     pub low: bool,

@@ -1,17 +1,14 @@
 // The square root of an f32, guessed in float steps and settled by one square of whole numbers. Where that settles nothing, `float::sqrt` does.
+// No part but `sqrt` itself branches, so that lines of many values may take the same steps.
 ghost use mathlib.Core.Path.{_≡_};
 ghost use mathlib.Core.Bool.{true, cond};
 ghost use Prim.Native.Nat.{_+_, _*_, _%_, _^_, _≤_, _<_};
+ghost use lib.Ieee.{binary32, ofBits};
 ghost use Rattle.float.specs.Root.{nearRoot};
 ghost use Rattle.float.specs.Pattern.{unitsOf};
 ghost use Rattle.float.specs.Sqrt.{sqrtOf, rootPattern};
+use crate::Trial;
 use float::to_u64;
-
-// A root, or its pattern, that is right where `near` holds.
-struct Trial {
-    root: u32,
-    near: bool,
-}
 
 // 1 or 0.
 fn one(test: bool) -> u32
@@ -79,16 +76,42 @@ fn attempt(p: u32, g: u32) -> Trial
     }
 }
 
+// The pattern b where it is a normal value's, and else that of 1.
+fn normal(b: u32) -> u32
+    ensures { λ r. ⌜ (2 ^ 23 ≤ r) × (r < 0x7f80_0000) ⌝ }
+{
+    if (0x80_0000 <= b) & (b < 0x7f80_0000) {
+        b
+    } else {
+        0x3f80_0000
+    }
+}
+
+// Close to the root of a normal d. Nothing is claimed of it.
+pub fn guess_of(d: f32) -> f32 {
+    guess(normal(words::bits(d)))
+}
+
+// The pattern of the root of d, from a guess g.
+pub fn tried(d: f32, g: f32) -> Trial
+    ensures { λ r. ⌜ (r .root < 0x7f80_0000) × (r .near ≡ true → ofBits binary32 (r .root) ≡ sqrtOf d) ⌝ }
+{
+    let b = words::bits(d);
+    let p = normal(b);
+    let t = attempt(p, words::bits(g));
+    Trial {
+        root: t.root,
+        near: (p == b) & t.near,
+    }
+}
+
 // The square root: `float::sqrt`'s, and at a normal value most often in a fraction of its time.
 pub fn sqrt(x: f32) -> f32
     ensures { λ r. ⌜ r ≡ sqrtOf x ⌝ }
 {
-    let b = words::bits(x);
-    if (0x80_0000 <= b) & (b < 0x7f80_0000) {
-        let t = attempt(b, words::bits(guess(b)));
-        if t.near {
-            return f32::from_bits(t.root);
-        }
+    let t = tried(x, guess_of(x));
+    if t.near {
+        return f32::from_bits(t.root);
     }
     float::sqrt(x)
 }

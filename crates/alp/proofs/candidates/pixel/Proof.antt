@@ -1,19 +1,15 @@
--- `candidates::pixel` meets its contract: a pixel that stands out at neither polarity lists nothing.
-use mathlib.Core.Path.{sym, _∙_}
-use Rattle.samples.specs.Level.{mapsOf}
-use Rattle.alp.proofs.DueLaws.{laid-none, nothing-stands}
+-- `candidates::pixel` meets its contract: a pixel without a mark lists nothing.
+use Rattle.alp.proofs.DueLaws.{laid-none}
+use borrow.Author.Tests.{not-true}
 use borrow.Author.Needs.{needs}
 use Rattle.alp.proofs.candidates.pixel.Statement.{statement}
 use Rattle.alp.proofs.candidates.pixel.Tie as tie
 
 returns : tie.Need-returns
-returns c =
-    let a = c .before .before .before .before .before .before .args in
-    let m = mapsOf (a .l0 .now) (a .l1 .now) (a .l2 .now) (a .l3 .now) (a .f) (a .set) (a .th) in
-    rw (nothing-stands m (a .row) (a .col) (sym (c .before .before .before .before .before .before .pre .1 .1 .0) ∙ c .if1 .taken)) laid-none
+returns c = rw (c .before .before .before .before .before .before .pre .1 .1 .0 (not-true (c .before .before .before .before .before .before .args .marked) (c .if1 .taken))) laid-none
 
 judged-requires : tie.Need-judged-requires
-judged-requires c κs = c .before .before .before .before .before .before .before .pre
+judged-requires c κs = let p = c .before .before .before .before .before .before .before .pre in (p .0, (p .1 .0, p .1 .1 .1))
 
 same-length : tie.Need-same-length
 same-length c = search needs

@@ -1,12 +1,13 @@
 -- `candidates::row_spots` meets its contract. The loop's invariant: what the first k judged pixels of the row list is laid.
 use native.Mathlib.Numerals.{add-one}
 use native.Mathlib.Omega.{arith}
-use mathlib.Core.Path.{_≡_}
-use Prim.Native.Nat.{_+_, _≤_, _-_}
+use mathlib.Core.Path.{_≡_, sym, _∙_}
+use Prim.Native.Nat.{_+_, _%_, _≤_, _-_}
 use Rattle.samples.specs.Level.{mapsOf}
+use Rattle.sweep.proofs.MarksLaws.{mark-none}
+use Rattle.sweep.proofs.PassLaws.{unmarked-nothing}
 use Rattle.alp.specs.Due.{Laid, rowDue}
-use Rattle.alp.proofs.DueLaws.{laid-none, laid-append, laid-length, rowDue-short}
-use Rattle.alp.proofs.MarksLaws.{strip-mark}
+use Rattle.alp.proofs.DueLaws.{laid-none, laid-append, laid-length, nothing-listed, rowDue-short}
 use Rattle.alp.proofs.candidates.row_spots.Statement.{statement}
 use Rattle.alp.proofs.candidates.row_spots.Tie as tie
 
@@ -29,14 +30,11 @@ add-pixel c = omega arith
 add-pixel-2 : tie.Need-add-pixel-2 Inv-loop μ-loop
 add-pixel-2 c = omega arith
 
-mul-pixel : tie.Need-mul-pixel Inv-loop μ-loop
-mul-pixel c = let p = c .before .before .before .before .before .before .before .before .pre in omega (arith, p .0 .cols-most)
+add-is-marked : tie.Need-add-is-marked Inv-loop μ-loop
+add-is-marked c = omega arith
 
-add-pixel-3 : tie.Need-add-pixel-3 Inv-loop μ-loop
-add-pixel-3 c = let p = c .before .before .before .before .before .before .before .before .pre in omega (arith, p .0 .cols-most)
-
-element-copy-out-pixel : tie.Need-element-copy-out-pixel Inv-loop μ-loop
-element-copy-out-pixel c = let p = c .before .before .before .before .before .before .before .before .pre in omega (arith, p .0 .cols-most)
+is-marked-requires : tie.Need-is-marked-requires Inv-loop μ-loop
+is-marked-requires c κs = let p = c .before .before .before .before .before .before .before .before .pre in (omega arith, omega (arith, p .0 .cols-most))
 
 pixel-requires : tie.Need-pixel-requires Inv-loop μ-loop
 pixel-requires c κs =
@@ -47,7 +45,10 @@ pixel-requires c κs =
       p .0,
       (
         record { top = omega arith; bottom = omega arith; left = omega arith; right = omega arith },
-        (strip-mark m (a .j) (l .k) (p .1 .0) (omega arith) (p .1 .1 .0), omega (arith, l .inv .1 .count, rowDue-short m (a .j + 4) (l .k))),
+        (
+          λ none. nothing-listed m (a .j + 4) (l .k + 4) (unmarked-nothing m (a .j) (l .k) (p .1 .0) (omega arith) (p .1 .1 .0) (mark-none (a .marks .now) (a .j % 254) (l .k + 4) (sym (c .before .is-marked .ensures) ∙ none))),
+          omega (arith, l .inv .1 .count, rowDue-short m (a .j + 4) (l .k)),
+        ),
       ),
     )
 
@@ -68,4 +69,4 @@ returns : tie.Need-returns Inv-loop μ-loop
 returns c = let e : c .before .before .loop .k ≡ c .before .before .before .before .before .before .before .before .args .f .cols - 8 = omega arith in rw e at (c .before .before .loop .inv .1)
 
 pub row-spots-spec : {M : Type 1} → statement M
-row-spots-spec = tie.close (tie.spec Inv-loop μ-loop loop-holds add-if1 add-pixel add-pixel-2 mul-pixel add-pixel-3 element-copy-out-pixel pixel-requires add-k loop-less loop-again same-length returns)
+row-spots-spec = tie.close (tie.spec Inv-loop μ-loop loop-holds add-if1 add-pixel add-pixel-2 add-is-marked is-marked-requires pixel-requires add-k loop-less loop-again same-length returns)

@@ -5,22 +5,22 @@ use mathlib.Core.Path.{_≡_}
 use Prim.Native.Nat.{ℕ, _%_, _≤_, _<_, _-_}
 use lib.ListN.{length, length-replicate}
 use Rattle.samples.specs.Level.{mapsOf}
-use Rattle.alp.specs.Inside.Marks.{Strip}
+use Rattle.sweep.specs.Ruled.{Block}
 use Rattle.alp.specs.Due.{Laid, rowsDue, due}
 use Rattle.alp.proofs.DueLaws.{laid-none, laid-append, laid-length, rowsDue-short}
-use Rattle.alp.proofs.MarksLaws.{strip-next}
+use Rattle.sweep.proofs.PassLaws.{block-next}
 use Rattle.alp.proofs.candidates.rows_spots.Statement.{statement}
 use Rattle.alp.proofs.candidates.rows_spots.Tie as tie
 
 abbrev Inv-loop : tie.InvT-loop
-Inv-loop l0 l1 l2 l3 f set th out₀ marks₀ m₀ j₀ out marks m j = (j ≤ f .rows - 8) × Laid out₀ out 0 m (rowsDue (mapsOf l0 l1 l2 l3 f set th) j) × (length marks ≡ 65536) × (0 < j % 16 → Strip (mapsOf l0 l1 l2 l3 f set th) j marks)
+Inv-loop l0 l1 l2 l3 f set th out₀ marks₀ m₀ j₀ out marks m j = (j ≤ f .rows - 8) × Laid out₀ out 0 m (rowsDue (mapsOf l0 l1 l2 l3 f set th) j) × (length marks ≡ 131072) × (0 < j % 254 → Block (mapsOf l0 l1 l2 l3 f set th) j marks)
 
 abbrev μ-loop : tie.MeasureT-loop
 μ-loop l0 l1 l2 l3 f set th out₀ marks₀ m₀ j₀ out marks m j = f .rows - 8 - j
 
 loop-holds : tie.Need-loop-holds Inv-loop μ-loop
 unfolding rowsDue
-loop-holds c = (omega arith, laid-none, length-replicate {A = ℕ} 65536 0, λ h. let z : ⊥ = omega arith in absurd z)
+loop-holds c = (omega arith, laid-none, length-replicate {A = ℕ} 131072 0, λ h. let z : ⊥ = omega arith in absurd z)
 
 add-if1 : tie.Need-add-if1 Inv-loop μ-loop
 add-if1 c = omega arith
@@ -47,7 +47,7 @@ loop-again c = (
   omega arith,
   rw add-one (laid-append (c .before .before .before .before .before .before .before .before .before .loop .inv .1) (c .before .before .row-spots .ensures)),
   c .before .before .before .before .before .refresh .ensures .long,
-  strip-next (c .before .before .before .before .before .before .before .before .before .loop .j) (c .before .before .before .before .before .refresh .ensures),
+  block-next (c .before .before .before .before .before .before .before .before .before .loop .j) (c .before .before .before .before .before .refresh .ensures),
 )
 
 same-length : tie.Need-same-length Inv-loop μ-loop

@@ -4,11 +4,6 @@ use Rattle.pixel.proofs.StandsLaws.{own-by-branches}
 use borrow.Author.Needs.{needs}
 use Rattle.pixel.proofs.gate.own.Statement.{statement}
 use Rattle.pixel.proofs.gate.own.Tie as tie
-use Rattle.pixel.proofs.gate.own.Reads as reads
-use Rattle.pixel.proofs.gate.own.Lts as lts
-use Rattle.fit.proofs.reference.polynomial_extrema.Reads as polynomial-extrema-reads
-use Rattle.fit.proofs.scale_fit.apply_cubic_transform.Reads as apply-cubic-transform-reads
-use Rattle.pixel.proofs.gate.own_gate.Reads as own-gate-reads
 
 apply-cubic-transform-requires : tie.Need-apply-cubic-transform-requires
 apply-cubic-transform-requires c κs = search needs

@@ -3,9 +3,6 @@ use Rattle.pixel.specs.Stands.{ownsEither}
 use borrow.Author.Needs.{needs}
 use Rattle.pixel.proofs.gate.owns_either.Statement.{statement}
 use Rattle.pixel.proofs.gate.owns_either.Tie as tie
-use Rattle.pixel.proofs.gate.owns_either.Reads as reads
-use Rattle.pixel.proofs.gate.owns_either.Lts as lts
-use Rattle.fit.proofs.scale_fit.owns_scale_extremum.Reads as owns-scale-extremum-reads
 
 owns-scale-extremum-requires : tie.Need-owns-scale-extremum-requires
 owns-scale-extremum-requires c κs = search needs

@@ -5,13 +5,6 @@ use Rattle.pixel.proofs.StandsLaws.{hidden, not-whole-settled, shown}
 use borrow.Author.Needs.{needs}
 use Rattle.pixel.proofs.judge.settled.Statement.{statement}
 use Rattle.pixel.proofs.judge.settled.Tie as tie
-use Rattle.pixel.proofs.judge.settled.Reads as reads
-use Rattle.pixel.proofs.judge.settled.Lts as lts
-use Rattle.pixel.proofs.judge.cubics_of.Reads as cubics-of-reads
-use Rattle.pixel.proofs.judge.is_whole.Reads as is-whole-reads
-use Rattle.pixel.proofs.judge.key_of.Reads as key-of-reads
-use Rattle.pixel.proofs.judge.refined.Reads as refined-reads
-use Rattle.pixel.proofs.judge.spot_at.Reads as spot-at-reads
 
 returns : tie.Need-returns
 returns c = hidden _ _ _ _ _ _ _ _ (not-true (c .before .args .stands) (c .if1 .taken))

@@ -3,9 +3,6 @@ use Rattle.pixel.specs.Stands.{beatsCubic}
 use borrow.Author.Needs.{needs}
 use Rattle.pixel.proofs.ring.beats.Statement.{statement}
 use Rattle.pixel.proofs.ring.beats.Tie as tie
-use Rattle.pixel.proofs.ring.beats.Reads as reads
-use Rattle.pixel.proofs.ring.beats.Lts as lts
-use Rattle.fit.proofs.scale_fit.band_extreme.Reads as band-extreme-reads
 
 band-extreme-requires : tie.Need-band-extreme-requires
 band-extreme-requires c κs = search needs

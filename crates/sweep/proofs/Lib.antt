@@ -1,0 +1,5 @@
+-- Laws of the pass.
+pub mod MarksLaws
+pub mod ColumnLaws
+pub mod ReadLaws
+pub mod PassLaws
