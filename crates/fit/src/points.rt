@@ -30,7 +30,7 @@ pub fn is_inside(sigmas: [f32; 4], s: f32) -> bool
 }
 
 // x where the test holds, else y.
-fn pick(test: bool, x: f32, y: f32) -> f32
+pub fn pick(test: bool, x: f32, y: f32) -> f32
     ensures { λ r. ⌜ r ≡ cond test x y ⌝ }
 {
     if test { x } else { y }

@@ -5,6 +5,7 @@ use crate::Stationary;
 use crate::points::first_of;
 use crate::points::is_cubic;
 use crate::points::is_quadratic;
+use crate::points::pick;
 use crate::points::second_of;
 use tables::Set;
 ghost use mathlib.Core.Path.{_≡_};
@@ -139,11 +140,8 @@ fn better(k: [f32; 4], sign: f32, low: f32, high: f32, ends: f32, point: Station
 {
     match point {
         Stationary::At(s) => {
-            if (s > low) & (s < high) {
-                float::max(ends, sign * horner(k, s))
-            } else {
-                ends
-            }
+            let value = float::max(ends, sign * horner(k, s));
+            pick((s > low) & (s < high), value, ends)
         }
         Stationary::Nowhere => ends,
     }

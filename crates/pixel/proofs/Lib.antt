@@ -3,6 +3,5 @@ pub mod NineLaws
 pub mod GateLaws
 pub mod RingLaws
 pub mod VerdictLaws
-pub mod StandsLaws
 pub mod OrderLaws
 pub mod RuleOut

@@ -1,11 +1,19 @@
--- A test of every index holds exactly where it holds at each.
+-- A test of every index holds exactly where it holds at each; the test of one place.
 use mathlib.Core.Path.{_≡_, refl, _∙_, ap}
 use mathlib.Core.Bool.{Bool, true, false, and-false}
 use Prim.Native.Nat.{ℕ, suc, zero, _+_, _<_, suc-le-suc}
 use native.Mathlib.Nat.{not-suc-le-zero, le-of-suc-le-suc}
 use native.Mathlib.Omega.{arith}
 use Rattle.float.proofs.Bools.{both}
-use Rattle.pixel.specs.Ring.{allOf}
+use mathlib.Core.List.{List, []}
+use lib.Dec.{eqb}
+use lib.ListN.{length, getD}
+use lib.Ieee.{Float}
+use Rattle.fit.specs.Cubic.{coeffsOf}
+use Rattle.fit.specs.declared.Band.{Band}
+use Rattle.pixel.specs.Ring.{allOf, beatsCubic, beatsBy, beatsOf}
+use Rattle.pixel.specs.Verdict.{cubicsOf}
+use Rattle.pixel.proofs.NineLaws.{cubics-place}
 
 module _ (p : ℕ → Bool) where
   all-from : (n i : ℕ) → ((k : ℕ) → k < n → p (i + k) ≡ true) → allOf n i p ≡ true
@@ -37,3 +45,14 @@ module _ (p : ℕ → Bool) where
 
   pub all-each : (n : ℕ) → allOf n 0 p ≡ true → (k : ℕ) → k < n → p k ≡ true
   all-each n h k b = ap p (omega arith) ∙ each-from n 0 h k b
+
+-- the test of one of the nine places, from its samples
+pub beats-place : (t : List Float) (nine : List (List Float)) (peak : Float) (band : Band) (isMax : Bool) (i : ℕ) → i < length nine → eqb i 4 ≡ false →
+    beatsOf (cubicsOf t nine) peak band isMax i ≡ beatsCubic (coeffsOf t (getD nine i [])) peak band isMax
+unfolding beatsBy beatsCubic
+beats-place t nine peak band isMax i h other = rw (other, cubics-place t nine i h)
+
+-- the pixel itself is left out
+pub beats-itself : (k : List (List Float)) (peak : Float) (band : Band) (isMax : Bool) (i : ℕ) → eqb i 4 ≡ true → beatsOf k peak band isMax i ≡ true
+unfolding beatsBy
+beats-itself k peak band isMax i itself = rw itself

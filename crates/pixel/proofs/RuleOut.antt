@@ -8,6 +8,7 @@ use native.Mathlib.Omega.{arith}
 use lib.Dec.{T, eqb}
 use lib.ListN.{length, getD}
 use lib.Ieee.{Float, lt, le, neg, binary32, fits}
+use Rattle.pixel.specs.Ring.{beatsCubic}
 use Rattle.float.specs.Small.{finite, absOf}
 use Rattle.float.specs.Num.{_⊗_, f0}
 use Rattle.float.proofs.Bools.{all-four, contrary}
@@ -35,7 +36,6 @@ use Rattle.refine.specs.declared.Refined.the-variants.{Rejected}
 use Rattle.pixel.specs.Gate.{sigmaOf, peakOf, strongOf, curvedOf, gateBy, ownGateBy, ownGateOf}
 use Rattle.pixel.specs.Verdict.{cubicsOf, verdictOf}
 use Rattle.pixel.specs.Rules.{cubicsAt, ownSamples, ownCubic, ownSigma, ownPeak}
-use Rattle.pixel.specs.Stands.{beatsCubic}
 use Rattle.pixel.specs.declared.Frame.{Frame}
 use Rattle.pixel.specs.declared.Verdict.the-variants.{Nothing}
 use Rattle.pixel.proofs.NineLaws.{cubics-place}

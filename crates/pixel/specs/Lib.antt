@@ -3,4 +3,3 @@ pub mod Gate
 pub mod Ring
 pub mod Verdict
 pub mod Rules
-pub mod Stands

@@ -6,7 +6,7 @@ use lib.Dec.{eqb}
 use lib.ListN.{getD}
 use lib.Ieee.{Float, lt}
 use Rattle.fit.specs.Prims.{Prims, ours}
-use Rattle.fit.specs.Band.{extremeBy}
+use Rattle.fit.specs.Band.{extremeBy, extremeOf}
 use Rattle.fit.specs.declared.Band.{Band}
 
 -- the test holds at i, i + 1, .., n of them
@@ -23,6 +23,12 @@ beatsBy P k peak band isMax i =
 -- it beats all eight
 unfoldable pub ringBy : (ℕ → Prims) → List (List Float) → Float → Band → Bool → Bool
 ringBy P k peak band isMax = allOf 9 0 (beatsBy P k peak band isMax)
+
+-- the peak strictly beats the extreme of the cubic k over the band
+unfoldable pub beatsCubic : List Float → Float → Band → Bool → Bool
+beatsCubic k peak band isMax =
+    let extreme = extremeOf k (band .low) (band .high) isMax in
+    cond isMax (lt extreme peak) (lt peak extreme)
 
 abbrev pub beatsOf : List (List Float) → Float → Band → Bool → ℕ → Bool
 beatsOf = beatsBy (λ i. ours)

@@ -2,8 +2,6 @@
 ghost use mathlib.Core.Path.{_≡_};
 ghost use Rattle.fit.specs.Prims.{ours};
 ghost use Rattle.pixel.specs.Gate.{sigmaOf, peakOf, strongOf, curvedOf, gateBy};
-ghost use Rattle.pixel.specs.Stands.{ownsEither, ownOf};
-use crate::Own;
 use fit::Envelope;
 use fit::scale_fit::bends;
 use tables::Thresholds;
@@ -62,26 +60,4 @@ pub fn own_gate(th: Thresholds, l: [f32; 4], k: [f32; 4], e: Envelope, is_max: b
     ensures { λ r. ⌜ r ≡ gateBy ours th l k (sigmaOf e «is_max») (peakOf e «is_max») «is_max» ⌝ }
 {
     gate(th, l, k, sigma_of(e, is_max), peak_of(e, is_max), is_max)
-}
-
-// An inner level owns the minimum or the maximum of the samples l. Most pixels own neither, as comparisons alone tell.
-pub fn owns_either(l: [f32; 4]) -> bool
-    ensures { λ r. ⌜ r ≡ ownsEither l ⌝ }
-{
-    fit::scale_fit::owns_scale_extremum(l, false) | fit::scale_fit::owns_scale_extremum(l, true)
-}
-
-// What the pixel's own samples l tell. The envelope by branches takes a root only where the discriminant is positive, once for both polarities.
-pub fn own(scale: &[f32; 12], sigmas: [f32; 4], th: Thresholds, l: [f32; 4]) -> Own
-    ensures { λ r. ⌜ r ≡ ownOf (now (scale .entry)) sigmas th l ⌝ }
-{
-    let k = fit::scale_fit::apply_cubic_transform(scale, l);
-    let e = fit::reference::polynomial_extrema(k, sigmas, l[0], l[3]);
-    let low = own_gate(th, l, k, e, false);
-    let high = own_gate(th, l, k, e, true);
-    Own {
-        low,
-        high,
-        envelope: e,
-    }
 }

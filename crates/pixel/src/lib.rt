@@ -3,7 +3,6 @@ pub mod gate;
 pub mod judge;
 pub mod ring;
 
-use fit::Envelope;
 use record::Record;
 
 // The size of a map, and the octave that its records carry.
@@ -23,11 +22,4 @@ pub enum Verdict {
 pub struct Listing {
     pub low: Verdict,
     pub high: Verdict,
-}
-
-// What a pixel's own samples tell: whether its gates pass as a minimum and as a maximum, and its envelope.
-pub struct Own {
-    pub low: bool,
-    pub high: bool,
-    pub envelope: Envelope,
 }

@@ -130,7 +130,7 @@ picked l true n m = refl
 picked l false n m = refl
 
 -- one of eight tests
-one-of : {P : Type 0} (a b c d e f g h : Bool) → (((a || b) || c || (d || e) || (f || g) || h) ≡ true) →
+one-of : {P : Type 0} (a b c d e f g h : Bool) → (((a || b || c) || (d || e) || (f || g || h)) ≡ true) →
     (a ≡ true → P) → (b ≡ true → P) → (c ≡ true → P) → (d ≡ true → P) → (e ≡ true → P) → (f ≡ true → P) → (g ≡ true → P) → (h ≡ true → P) → P
 one-of true b c d e f g h k pa pb pc pd pe pf pg ph = pa refl
 one-of false true c d e f g h k pa pb pc pd pe pf pg ph = pb refl
@@ -255,26 +255,26 @@ module _ (s : Set) (th : Thresholds) (f : Frame) (nine : List (List Float)) (row
     reached-rules t =
         one-of _ _ _ _ _ _ _ _ t
         (reach-at 0 (x + codeOf i isMax) (omega arith) refl (code-start isMax x i))
-        (reach-at 6 (x + codeOf i isMax + 2) (omega arith) refl (code-index isMax x i 2))
         (reach-at 3 (x + codeOf i isMax + 1) (omega arith) refl (code-index isMax x i 1))
+        (reach-at 6 (x + codeOf i isMax + 2) (omega arith) refl (code-index isMax x i 2))
         (reach-at 1 (y + codeOf i isMax) (omega arith) refl (code-start isMax y i))
         (reach-at 7 (y + codeOf i isMax + 2) (omega arith) refl (code-index isMax y i 2))
         (reach-at 2 (z + codeOf i isMax) (omega arith) refl (code-start isMax z i))
-        (reach-at 8 (z + codeOf i isMax + 2) (omega arith) refl (code-index isMax z i 2))
         (reach-at 5 (z + codeOf i isMax + 1) (omega arith) refl (code-index isMax z i 1))
+        (reach-at 8 (z + codeOf i isMax + 2) (omega arith) refl (code-index isMax z i 2))
 
     ended-rules : endedOf x y z i a b c d (signOf isMax) (height own isMax) (bandOf (s .sigmas) point) ≡ true → verdictOf s th f nine row col isMax ≡ Nothing
     unfolding endedOf
     ended-rules t =
         one-of _ _ _ _ _ _ _ _ t
         (λ e. rule-end 0 (omega arith) refl (sym (start x) ∙ e))
-        (rule-end 6 (omega arith) refl)
         (rule-end 3 (omega arith) refl)
+        (rule-end 6 (omega arith) refl)
         (λ e. rule-end 1 (omega arith) refl (sym (start y) ∙ e))
         (rule-end 7 (omega arith) refl)
         (λ e. rule-end 2 (omega arith) refl (sym (start z) ∙ e))
-        (rule-end 8 (omega arith) refl)
         (rule-end 5 (omega arith) refl)
+        (rule-end 8 (omega arith) refl)
       where
         start : (m : ℕ) → endsAt a b c d (signOf isMax) (height own isMax) (bandOf (s .sigmas) point) (m + i) ≡ endsAt a b c d (signOf isMax) (height own isMax) (bandOf (s .sigmas) point) (m + i + 0)
         start m = ap (endsAt a b c d (signOf isMax) (height own isMax) (bandOf (s .sigmas) point)) (omega arith)

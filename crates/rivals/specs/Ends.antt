@@ -26,9 +26,9 @@ endsAt a b c d sign val band m = ends (cubicIn a b c d m) sign val band
 -- a neighbour of the pixel at place h + 1 does
 unfoldable pub endedOf : ℕ → ℕ → ℕ → ℕ → List Float → List Float → List Float → List Float → Float → Float → Band → Bool
 endedOf x y z h a b c d sign val band =
-    (endsAt a b c d sign val band (x + h) || endsAt a b c d sign val band (x + h + 2)) || endsAt a b c d sign val band (x + h + 1)
+    (endsAt a b c d sign val band (x + h) || endsAt a b c d sign val band (x + h + 1) || endsAt a b c d sign val band (x + h + 2))
     || (endsAt a b c d sign val band (y + h) || endsAt a b c d sign val band (y + h + 2))
-    || (endsAt a b c d sign val band (z + h) || endsAt a b c d sign val band (z + h + 2)) || endsAt a b c d sign val band (z + h + 1)
+    || (endsAt a b c d sign val band (z + h) || endsAt a b c d sign val band (z + h + 1) || endsAt a b c d sign val band (z + h + 2))
 
 -- the cubics at the nine places around it, by rows
 unfoldable pub nineIn : ℕ → ℕ → ℕ → ℕ → List Float → List Float → List Float → List Float → List (List Float)

@@ -20,6 +20,6 @@ unfoldable pub reachedOf : List Float → ℕ → ℕ → ℕ → ℕ → List F
 reachedOf g x y z e p v =
     let val = v at (y + e + 1) in
     let b = bandOf g (p at (y + e + 1)) in
-    (reachesAt b val p v (x + e) || reachesAt b val p v (x + e + 2)) || reachesAt b val p v (x + e + 1)
+    (reachesAt b val p v (x + e) || reachesAt b val p v (x + e + 1) || reachesAt b val p v (x + e + 2))
     || (reachesAt b val p v (y + e) || reachesAt b val p v (y + e + 2))
-    || (reachesAt b val p v (z + e) || reachesAt b val p v (z + e + 2)) || reachesAt b val p v (z + e + 1)
+    || (reachesAt b val p v (z + e) || reachesAt b val p v (z + e + 1) || reachesAt b val p v (z + e + 2))

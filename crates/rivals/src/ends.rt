@@ -50,6 +50,27 @@ fn is_either(
         | is_ending(cubic_at(a, b, c, d, m + 2), sign, val, band)
 }
 
+// One of the three from m on does.
+fn is_three(
+    a: &[f32; 780],
+    b: &[f32; 780],
+    c: &[f32; 780],
+    d: &[f32; 780],
+    m: usize,
+    sign: f32,
+    val: f32,
+    band: Band,
+) -> bool
+    requires { ⌜ m + 2 < 780 ⌝ }
+    ensures { λ r. ⌜ r ≡ (ends (cubicIn (now (a .entry)) (now (b .entry)) (now (c .entry)) (now (d .entry)) m) sign val band
+        || ends (cubicIn (now (a .entry)) (now (b .entry)) (now (c .entry)) (now (d .entry)) (m + 1)) sign val band
+        || ends (cubicIn (now (a .entry)) (now (b .entry)) (now (c .entry)) (now (d .entry)) (m + 2)) sign val band) ⌝ }
+{
+    is_ending(cubic_at(a, b, c, d, m), sign, val, band)
+        | is_ending(cubic_at(a, b, c, d, m + 1), sign, val, band)
+        | is_ending(cubic_at(a, b, c, d, m + 2), sign, val, band)
+}
+
 fn sign_of(is_max: bool) -> f32
     ensures { λ r. ⌜ r ≡ signOf «is_max» ⌝ }
 {
@@ -74,11 +95,9 @@ fn is_ended(
     requires { ⌜ (z ≤ 520) × (h ≤ 253) ⌝ }
     ensures { λ r. ⌜ r ≡ endedOf x y z h (now (a .entry)) (now (b .entry)) (now (c .entry)) (now (d .entry)) sign val band ⌝ }
 {
-    is_either(a, b, c, d, x + h, sign, val, band)
-        | is_ending(cubic_at(a, b, c, d, x + h + 1), sign, val, band)
+    is_three(a, b, c, d, x + h, sign, val, band)
         | is_either(a, b, c, d, y + h, sign, val, band)
-        | is_either(a, b, c, d, z + h, sign, val, band)
-        | is_ending(cubic_at(a, b, c, d, z + h + 1), sign, val, band)
+        | is_three(a, b, c, d, z + h, sign, val, band)
 }
 
 // The cubics at the nine places around place h + 1 of the slot y, by rows.

@@ -23,6 +23,17 @@ fn is_either(p: &[f32; 1560], v: &[f32; 1560], m: usize, val: f32, band: Band) -
     is_reaching(p[m], v[m], val, band) | is_reaching(p[m + 2], v[m + 2], val, band)
 }
 
+// One of the three from m on does, in the order in which the machine reads them.
+fn is_three(p: &[f32; 1560], v: &[f32; 1560], m: usize, val: f32, band: Band) -> bool
+    requires { ⌜ m + 2 < 1560 ⌝ }
+    ensures { λ r. ⌜ r ≡ (reaches band val (now (p .entry) at m) (now (v .entry) at m) || reaches band val (now (p .entry) at (m + 1)) (now (v .entry) at (m + 1))
+        || reaches band val (now (p .entry) at (m + 2)) (now (v .entry) at (m + 2))) ⌝ }
+{
+    is_reaching(p[m], v[m], val, band)
+        | is_reaching(p[m + 1], v[m + 1], val, band)
+        | is_reaching(p[m + 2], v[m + 2], val, band)
+}
+
 // A neighbour's point reaches the candidate e.
 fn is_reached(
     sigmas: [f32; 4],
@@ -39,11 +50,9 @@ fn is_reached(
 {
     let val = v[y + e + 1];
     let band = fit::scale_fit::neighbor_scale_band(sigmas, p[y + e + 1]);
-    is_either(p, v, x + e, val, band)
-        | is_reaching(p[x + e + 1], v[x + e + 1], val, band)
+    is_three(p, v, x + e, val, band)
         | is_either(p, v, y + e, val, band)
-        | is_either(p, v, z + e, val, band)
-        | is_reaching(p[z + e + 1], v[z + e + 1], val, band)
+        | is_three(p, v, z + e, val, band)
 }
 
 fn one_if_not(test: bool) -> usize

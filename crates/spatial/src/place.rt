@@ -1,9 +1,10 @@
 // The inner level of a sigma, the spatial fit of nine values, and the displacement that the fit gives.
 ghost use mathlib.Core.Path.{_≡_};
-ghost use Prim.Native.Nat.{_<_, _≤_, _+_, _*_};
-ghost use Rattle.float.specs.Num.{f0};
+ghost use Prim.Native.Nat.{ℕ, _<_, _≤_, _+_, _*_};
+ghost use lib.ListN.{getD};
+ghost use Rattle.float.specs.Num.{_⊗_, f0};
 ghost use Rattle.fit.specs.Cubic.{_at_};
-ghost use Rattle.spatial.specs.Place.{indexOf, blockOf, termOf, sumFrom, spatialOf, denominatorOf, steepOf, deltaYOf, deltaXOf, nearby};
+ghost use Rattle.spatial.specs.Place.{indexOf, blockOf, sumFrom, spatialOf, denominatorOf, steepOf, deltaYOf, deltaXOf, nearby};
 use fit::scale_fit::bends;
 use tables::Set;
 
@@ -29,26 +30,34 @@ fn value_named(v: &[f32], name: u8) -> f32
     if i < v.len() { v[i] } else { 0.0 / 0.0 }
 }
 
-// The i-th term of the row that begins at base.
-fn term(w: &[f32; 90], order: [u8; 9], v: &[f32], base: usize, i: usize) -> f32
-    requires { ⌜ base ≤ 81 ⌝ }
-    requires { ⌜ i < 9 ⌝ }
-    ensures { λ r. ⌜ r ≡ termOf (now (w .entry)) order (now (v .entry)) base i ⌝ }
+// The nine values in the order of the rows' terms.
+fn ordered(order: [u8; 9], v: &[f32]) -> [f32; 9]
+    ensures { λ r. ⌜ ((i : ℕ) → i < 9 → r at i ≡ now (v .entry) at (getD order i 9)) ⌝ }
 {
-    w[base + i] * value_named(v, order[i])
+    [
+        value_named(v, order[0]),
+        value_named(v, order[1]),
+        value_named(v, order[2]),
+        value_named(v, order[3]),
+        value_named(v, order[4]),
+        value_named(v, order[5]),
+        value_named(v, order[6]),
+        value_named(v, order[7]),
+        value_named(v, order[8]),
+    ]
 }
 
 // A row's sum, from the left. It starts at +0.
-fn row_sum(w: &[f32; 90], order: [u8; 9], v: &[f32], block: usize, row: usize) -> f32
+fn row_sum(w: &[f32; 90], v: &[f32; 9], block: usize, row: usize) -> f32
     requires { ⌜ block ≤ 45 ⌝ }
     requires { ⌜ row < 5 ⌝ }
-    ensures { λ r. ⌜ r ≡ sumFrom 9 0 f0 (termOf (now (w .entry)) order (now (v .entry)) (block + 9 * row)) ⌝ }
+    ensures { λ r. ⌜ r ≡ sumFrom 9 0 f0 (λ i. now (w .entry) at (block + 9 * row + i) ⊗ now (v .entry) at i) ⌝ }
 {
     let base = block + 9 * row;
     let mut acc = 0.0f32;
     let mut i = 0usize;
     while i < 9 {
-        acc = acc + term(w, order, v, base, i);
+        acc = acc + w[base + i] * v[i];
         i += 1;
     }
     acc
@@ -67,12 +76,13 @@ pub fn fit_spatial_quadratic(set: Set, index: u8, values: [f32; 9]) -> [f32; 5]
 {
     let block = block_of(index);
     let order = set.order;
+    let v = ordered(order, &values);
     [
-        row_sum(&set.spatial, order, &values, block, 0),
-        row_sum(&set.spatial, order, &values, block, 1),
-        row_sum(&set.spatial, order, &values, block, 2),
-        row_sum(&set.spatial, order, &values, block, 3),
-        row_sum(&set.spatial, order, &values, block, 4),
+        row_sum(&set.spatial, &v, block, 0),
+        row_sum(&set.spatial, &v, block, 1),
+        row_sum(&set.spatial, &v, block, 2),
+        row_sum(&set.spatial, &v, block, 3),
+        row_sum(&set.spatial, &v, block, 4),
     ]
 }
 

@@ -1,3 +1,4 @@
+-- `scale_fit::better` meets its contract.
 use Rattle.fit.specs.Band.{betterBy}
 use borrow.Author.Needs.{needs}
 use Rattle.fit.proofs.scale_fit.better.Statement.{statement}
@@ -12,22 +13,19 @@ horner-requires c κs = search needs
 max-requires : tie.Need-max-requires
 max-requires c κs = search needs
 
+pick-requires : tie.Need-pick-requires
+pick-requires c κs = search needs
+
 enum-told : tie.Need-enum-told
 enum-told c = search needs
 
 returns : tie.Need-returns
 unfolding betterBy
-returns c = rw (c .before .before .before .before .point .given .1, c .before .before .if1 .taken, ← c .before .horner .ensures, ← c .max .ensures)
+returns c = rw (c .before .before .before .before .point .given .1, c .pick .ensures, c .before .max .ensures, c .before .before .horner .ensures)
 
 returns-2 : tie.Need-returns-2
 unfolding betterBy
-returns-2 c = rw (c .before .before .point .given .1, c .if1 .left)
-
-returns-3 : tie.Need-returns-3
-unfolding betterBy
-returns-3 c = rw (c .enum-told .given .1)
+returns-2 c = rw (c .enum-told .given .1)
 
 pub better-spec : {M : Type 1} → statement M
-better-spec =
-    tie.close
-    (tie.spec enum-known-point horner-requires max-requires enum-told returns returns-2 returns-3)
+better-spec = tie.close (tie.spec enum-known-point horner-requires max-requires pick-requires enum-told returns returns-2)

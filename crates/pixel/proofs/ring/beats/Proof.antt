@@ -1,6 +1,6 @@
 -- `ring::beats` meets its contract.
-use Rattle.pixel.specs.Stands.{beatsCubic}
 use borrow.Author.Needs.{needs}
+use Rattle.pixel.specs.Ring.{beatsCubic}
 use Rattle.pixel.proofs.ring.beats.Statement.{statement}
 use Rattle.pixel.proofs.ring.beats.Tie as tie
 
