@@ -51,9 +51,6 @@ apart c d n short other = go (ltb (c % 3) (d % 3)) (ltb→lt (c % 3) (d % 3)) (n
     go true less over = inl (below (c % 3) (d % 3) n short (less tt))
     go false less over = inr (below (d % 3) (c % 3) n short (unlike (c % 3) (d % 3) (over tt) other))
 
-pub slot-most : (c : ℕ) → slotOf c ≤ 520
-slot-most c = omega arith
-
 -- ---- three columns that stand in slots
 
 module _ (m : Maps) (j n col x y z : ℕ) (a b c d p v : List Float) (w : List ℕ)

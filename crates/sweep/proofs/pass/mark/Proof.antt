@@ -1,5 +1,6 @@
 -- `pass::mark` meets its contract.
 use Prim.Native.Nat.{ℕ}
+use native.Mathlib.Omega.{arith}
 use lib.ListN.{length-replicate}
 use Rattle.sweep.proofs.PassLaws.{passed-by}
 use borrow.Author.Needs.{needs}
@@ -7,7 +8,7 @@ use Rattle.sweep.proofs.pass.mark.Statement.{statement}
 use Rattle.sweep.proofs.pass.mark.Tie as tie
 
 thin-requires : tie.Need-thin-requires
-thin-requires c κs = let p = c .before .pre in (p .0, (p .1 .0, (length-replicate {A = ℕ} 256 0, p .1 .1 .1)))
+thin-requires c κs = let p = c .before .pre in (p .0, ((p .1 .0 .0, omega (arith, p .1 .0 .1)), (length-replicate {A = ℕ} 256 0, λ i h. p .1 .1 .1 i (omega arith))))
 
 put-line-requires : tie.Need-put-line-requires
 put-line-requires c κs = let p = c .before .before .before .before .pre in (p .1 .1 .0 .0, (c .before .before .thin .ensures .bits, p .1 .1 .0 .1))

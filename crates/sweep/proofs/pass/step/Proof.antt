@@ -3,7 +3,7 @@ use Prim.Native.Nat.{_+_, _-_, _*_, _%_}
 use native.Mathlib.Omega.{arith}
 use Rattle.samples.specs.Level.{mapsOf}
 use Rattle.sweep.proofs.ReadLaws.{a-column, column-small, reach-map, filled-map}
-use Rattle.sweep.proofs.PassLaws.{slot-most, under-kept, before-first, before-next}
+use Rattle.sweep.proofs.PassLaws.{under-kept, before-first, before-next}
 use borrow.Author.Needs.{needs}
 use Rattle.sweep.proofs.pass.step.Statement.{statement}
 use Rattle.sweep.proofs.pass.step.Tie as tie
@@ -75,9 +75,9 @@ mark-requires c κs =
     let p = c .before .before .before .before .before .before .before .before .before .before .before .before .before .before .before .before .before .before .before .before .before .before .before .before .pre in
     let m = mapsOf (s .l0 .now) (s .l1 .now) (s .l2 .now) (s .l3 .now) (s .f) (s .set) (s .th) in
     let filled = filled-map m (s .j) (s .n + 2) (s .col) (s .col % 3 * 260) (c .before .before .before .before .before .before .before .before .before .column .result) _ _ _ _ _ _ _ _ _ _ _ _ _ _ (omega arith) (c .before .before .before .before .before .before .before .before .before .column .ensures) in (
-      (slot-most (s .col + 1), slot-most (s .col + 2)),
+      (omega arith, omega arith),
       (
-        (slot-most (s .col), p .1 .0 .1),
+        (omega arith, p .1 .0 .1),
         (
           (omega (arith, p .0 .cols-most), p .1 .1 .1 .long),
           under-kept m (s .j) (s .n) (s .col) (s .before) (c .before .before .before .before .before .before .before .before .before .column .result) _ _ _ _ _ _ _ _ _ _ _ _ _ _ _ (p .1 .0 .1) (p .1 .1 .0 .0) (p .1 .1 .1) filled (omega (arith, c .before .before .before .before .before .before .before .before .if1 .left)),
