@@ -1,11 +1,9 @@
 /* From C: levels, each refusal in its order, what is kept, how far a lost pixel reaches; the correction, why a size is missing. Says what failed. */
-#define _XOPEN_SOURCE 700
 #include <math.h>
 #include <stdint.h>
 #include <stdio.h>
 #include <stdlib.h>
 #include <string.h>
-#include <ucontext.h>
 
 #include "uramsheg.h"
 
@@ -106,33 +104,6 @@ static bool reaches(const uint8_t *set, size_t octave, size_t row, size_t col, f
     return holds;
 }
 
-static uint8_t stack[1 << 18];
-static uint32_t deep_answer = UINT32_MAX;
-
-static void deep(void) {
-    enum { ROWS = 4096, COLS = 3, PIXELS = ROWS * COLS };
-    static const float sigmas[4] = {1, 5, 6, 7};
-    static float raw[PIXELS], level[4][PIXELS];
-    static uint8_t set[URAMSHEG_SET_BYTES];
-    set_of(set, sigmas);
-    deep_answer = uramsheg_levels(set, sizeof set, ROWS, COLS, 0, raw, PIXELS, level[0], PIXELS, level[1], PIXELS, level[2], PIXELS, level[3], PIXELS);
-}
-
-/* How many bytes of a stack of its own the longest columns take: it is painted before. */
-static size_t stack_taken(void) {
-    static ucontext_t here, there;
-    size_t kept_bytes = 0;
-    memset(stack, 0xa5, sizeof stack);
-    getcontext(&there);
-    there.uc_stack.ss_sp = stack;
-    there.uc_stack.ss_size = sizeof stack;
-    there.uc_link = &here;
-    makecontext(&there, deep, 0);
-    swapcontext(&here, &there);
-    while (kept_bytes < sizeof stack && stack[kept_bytes] == 0xa5) kept_bytes++;
-    return sizeof stack - kept_bytes;
-}
-
 /* A float at a word of a record. */
 static void put(uint8_t *record, int word, float x) {
     memcpy(record + 4 * word, &x, 4);
@@ -227,7 +198,5 @@ int main(void) {
     }
     expect("levels: a lost pixel reaches its radius and no further", holds);
 
-    size_t taken = stack_taken();
-    expect("levels: at most 50 KB of stack are taken", deep_answer == 0 && taken <= 50 * 1024);
     return failures != 0;
 }

@@ -1,7 +1,7 @@
 -- Laws of the cubics of a line. Assumes nothing.
-use Prim.Native.Nat.{ℕ, _+_, _*_, _≤_, _<_}
-use mathlib.Core.Path.{_≡_, refl, sym, ap, _∙_, subst}
-use mathlib.Core.Bool.{Bool, true, false, cond, _||_}
+use Prim.Native.Nat.{ℕ, _+_, _<_}
+use mathlib.Core.Path.{_≡_, refl, sym, ap, _∙_}
+use mathlib.Core.Bool.{Bool, true, false, _||_}
 use mathlib.Core.List.{List, [], _∷_}
 use native.Mathlib.Nat.{zero-add}
 use lib.ListN.{length, set}
@@ -11,7 +11,6 @@ use lib.Ieee.Fits.{add-fits}
 use Rattle.float.specs.Small.{absOf}
 use Rattle.float.specs.Num.{_⊕_, _⊖_, f1e-6}
 use Rattle.fit.specs.Cubic.{_at_, rowOf, coeffsOf, discriminantOf}
-use Rattle.columns.specs.Line.{Written}
 use Rattle.columns.specs.Coef.{underRoot, underRootOf, cubicAt, Stored, Coefs}
 use Rattle.columns.proofs.LineLaws.{written-none, written-more}
 

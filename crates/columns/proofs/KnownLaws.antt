@@ -1,5 +1,5 @@
 -- Laws of known roots. Assumes nothing.
-use Prim.Native.Nat.{ℕ, zero, suc, _+_, _*_, _^_, _<_}
+use Prim.Native.Nat.{zero, suc, _*_, _^_}
 use native.Mathlib.Nat.{zero-lt-suc, lt-of-lt-of-le, mul-pos}
 use native.Mathlib.Omega.{arith}
 use mathlib.Core.Path.{_≡_, refl, sym, ap, _∙_, subst}
@@ -13,7 +13,6 @@ use lib.Ieee.Fits.{up-pos}
 use lib.Ieee.Positive.{positive, positive-of-value}
 use Rattle.float.specs.Sqrt.{sqrtOf}
 use Rattle.float.specs.Num.{f0, f1}
-use Rattle.float.proofs.Bools.{both}
 use Rattle.float.proofs.SqrtClaims.{root-is, has-units}
 use Rattle.columns.specs.Known.{Known, found, absent, unknown}
 

@@ -1,23 +1,22 @@
 -- Told the root, the line's point is the stationary point. Assumes nothing.
 use Prim.Native.Nat.{ℕ, _+_, _*_, _<_}
 use native.Mathlib.Omega.{arith}
-use mathlib.Core.Path.{_≡_, refl, sym, ap, _∙_, subst}
-use mathlib.Core.Bool.{Bool, true, false, true≢false, false≢true, cond, not, _&&_, _||_, and-false, and-true}
-use mathlib.Core.List.{List, [], _∷_}
+use mathlib.Core.Path.{_≡_, refl, sym, ap, _∙_}
+use mathlib.Core.Bool.{Bool, true, false, true≢false, false≢true, cond, not, _&&_, and-false, and-true}
+use mathlib.Core.List.{List}
 use lib.IntN.{ℤ}
 use lib.Dec.{T}
 use lib.ListN.{length, set}
 use borrow.Author.Tests.{le-ltb}
 use lib.Ieee.{Float, nan, inf, fin, lt, neg, isNan, ofBits, odd, binary32, fits, up, down}
 use Rattle.float.specs.Small.{absOf}
-use Rattle.float.specs.Sqrt.{sqrtOf}
-use Rattle.float.specs.Num.{_⊖_, _⊗_, _⊘_, f0, f1, f2, f6, f1e-6}
+use Rattle.float.specs.Num.{_⊗_, f0, f1, f1e-6}
 use Rattle.float.proofs.Signs.{lt-neg}
 use Rattle.float.proofs.One.{one-times, minus-one-times}
 use Rattle.float.proofs.Denied.{lt-self}
 use Rattle.fit.specs.Cubic.{_at_, hornerOf, discriminantOf}
 use Rattle.fit.specs.Band.{signOf, stationaryOf}
-use Rattle.fit.specs.declared.Stationary.the-variants.{At, Nowhere}
+use Rattle.fit.specs.declared.Stationary.the-variants.{At}
 use Rattle.fit.proofs.Agree.{signs}
 use Rattle.columns.specs.Coef.{underRoot}
 use Rattle.columns.specs.Known.{Known, found, absent, unknown}

@@ -2,15 +2,14 @@
 use Prim.Native.Nat.{ℕ, _+_, _/_, _%_, _≤_, _<_}
 use native.Mathlib.Nat.{not-suc-le-zero, le-trans}
 use native.Mathlib.Omega.{arith}
-use mathlib.Core.Path.{_≡_, refl, sym, ap, _∙_, subst}
+use mathlib.Core.Path.{_≡_, refl, subst}
 use mathlib.Core.Bool.{Bool, true, false, cond, _&&_, _||_}
-use mathlib.Core.List.{List, [], _∷_}
+use mathlib.Core.List.{List}
 use lib.ListN.{length, set}
-use lib.Bits.{bitOr, bitAnd, or-add-and, or-comm, and-le-l}
+use lib.Bits.{bitOr, or-add-and, or-comm, and-le-l}
 use borrow.Author.Count.{below-more}
-use lib.Ieee.{Float, lt, le}
+use lib.Ieee.{Float, lt}
 use Rattle.float.specs.Num.{f0}
-use Rattle.fit.specs.Cubic.{_at_}
 use Rattle.fit.specs.Owned.{ownedBy}
 use Rattle.columns.specs.Gate.{passOf, wordOf, wordAt, Words}
 use Rattle.columns.specs.declared.Window.{Window}

@@ -1,10 +1,8 @@
 -- The stationary point of a polarity and its value, told the root. Definitions only.
 use Prim.Native.Nat.{ℕ, _+_}
 use mathlib.Core.Path.{_≡_}
-use mathlib.Core.Logic.{_⊎_}
 use mathlib.Core.Bool.{Bool, cond, not, _&&_, _||_}
 use mathlib.Core.List.{List, [], _∷_}
-use lib.ListN.{length}
 use lib.Ieee.{Float, nan, lt, neg}
 use Rattle.float.specs.Small.{absOf}
 use Rattle.float.specs.Num.{_⊖_, _⊗_, _⊘_, f0, f2, f6, f1e-6}

@@ -2,13 +2,12 @@
 use mathlib.Core.Path.{_≡_, refl, sym, ap, _∙_, subst}
 use mathlib.Core.Logic.{_⊎_, inl, inr}
 use mathlib.Core.List.{List}
-use mathlib.Core.Bool.{Bool, true, false, cond, _&&_, _||_, false≢true}
+use mathlib.Core.Bool.{Bool, true, false, _&&_, _||_, false≢true}
 use lib.Dec.{T}
 use lib.Ieee.{Float, nan, inf, fin, lt, isNan}
 use Rattle.float.specs.Small.{finite, minOf, maxOf}
 use Rattle.float.proofs.Denied.{below-through, above-through, max-not-below-left, max-not-below-right, min-not-above-left, min-not-above-right, max-either, min-either}
 use Rattle.fit.specs.Cubic.{_at_}
-use Rattle.fit.specs.Prims.{ours}
 use Rattle.fit.specs.Owns.{ownsBy, ownsOf}
 use Rattle.fit.specs.Owned.{outside, ownedBy}
 

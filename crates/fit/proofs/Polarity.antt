@@ -2,13 +2,13 @@
 use mathlib.Core.Path.{_≡_, refl, sym, ap, _∙_, subst}
 use mathlib.Core.Logic.{_⊎_, inl, inr}
 use mathlib.Core.List.{List}
-use mathlib.Core.Bool.{Bool, true, false, not, cond, _&&_}
+use mathlib.Core.Bool.{Bool, true, false, cond, _&&_}
 use lib.Dec.{T}
 use lib.Ieee.{Float, lt, neg, binary32, fits, ofBits}
 use lib.Ieee.Fits.{sub-fits}
 use Rattle.float.specs.Small.{finite, absOf}
 use Rattle.float.specs.Sqrt.{sqrtOf}
-use Rattle.float.specs.Num.{_⊕_, _⊖_, _⊗_, _⊘_, f0, f1, f2, f6, f1e-6}
+use Rattle.float.specs.Num.{_⊕_, _⊖_, _⊗_, _⊘_, f0, f2, f6, f1e-6}
 use Rattle.float.proofs.Bools.{both, all-five}
 use Rattle.float.proofs.Order.{below-one-way}
 use Rattle.float.proofs.Signs.{sub-neg}
@@ -20,8 +20,7 @@ use Rattle.fit.specs.Band.{signOf, stationaryOf}
 use Rattle.fit.specs.Envelope.{within, endsBy, putLow, putHigh, shapeOf}
 use Rattle.fit.specs.Extrema.{loweredOf, raisedOf, singleOf, bothOf, extremaOf}
 use Rattle.fit.specs.declared.Envelope.{Envelope}
-use Rattle.fit.specs.declared.Stationary.{Stationary}
-use Rattle.fit.specs.declared.Stationary.the-variants.{At, Nowhere}
+use Rattle.fit.specs.declared.Stationary.the-variants.{At}
 use Rattle.fit.proofs.Agree.{envelopes-agree}
 
 -- the stationary point of the polarity, with its value, inside the sigmas

@@ -1,12 +1,12 @@
 -- A value that a cubic reaches in a band, at its stationary point or at an end, is not beaten by what is at most that value. Assumes nothing.
-use mathlib.Core.Path.{_≡_, refl, sym, ap, _∙_, subst}
+use mathlib.Core.Path.{_≡_, sym, ap, _∙_}
 use mathlib.Core.List.{List}
 use mathlib.Core.Bool.{Bool, true, false, cond, _&&_}
 use lib.Dec.{T}
 use lib.Ieee.{Float, nan, lt, le, neg, isNan, binary32, fits}
 use lib.Ieee.Fits.{add-fits, mul-fits, cond-fits}
 use Rattle.float.specs.Small.{maxOf}
-use Rattle.float.specs.Num.{_⊗_, f1}
+use Rattle.float.specs.Num.{_⊗_}
 use Rattle.float.proofs.Order.{lt-nan}
 use Rattle.float.proofs.Signs.{neg-neg, lt-neg}
 use Rattle.float.proofs.One.{one-times, minus-one-times}

@@ -1,15 +1,15 @@
 -- What rules a pixel out: its own stationary point against the gates, a rival's stationary point or band end, a refusal. Assumes nothing.
 use Prim.Native.Nat.{ℕ, _<_}
 use mathlib.Core.Path.{_≡_, refl, sym, ap, _∙_, subst}
-use mathlib.Core.Logic.{_⊎_, inl, inr}
+use mathlib.Core.Logic.{inl, inr}
 use mathlib.Core.List.{List, []}
-use mathlib.Core.Bool.{Bool, true, false, true≢false, false≢true, cond, _&&_}
+use mathlib.Core.Bool.{Bool, true, false, false≢true, _&&_}
 use native.Mathlib.Omega.{arith}
 use lib.Dec.{T, eqb}
 use lib.ListN.{length, getD}
 use lib.Ieee.{Float, lt, le, neg, binary32, fits}
 use Rattle.pixel.specs.Ring.{beatsCubic}
-use Rattle.float.specs.Small.{finite, absOf}
+use Rattle.float.specs.Small.{finite}
 use Rattle.float.specs.Num.{_⊗_, f0}
 use Rattle.float.proofs.Bools.{all-four, contrary}
 use Rattle.float.proofs.Signs.{neg-neg, lt-neg}
@@ -33,8 +33,8 @@ use Rattle.fit.proofs.Rival.{horner-fits, stationary-reaches, low-reaches, high
 use Rattle.refine.specs.Refine.{refineOf}
 use Rattle.refine.specs.declared.Spot.{Spot}
 use Rattle.refine.specs.declared.Refined.the-variants.{Rejected}
-use Rattle.pixel.specs.Gate.{sigmaOf, peakOf, strongOf, curvedOf, gateBy, ownGateBy, ownGateOf}
-use Rattle.pixel.specs.Verdict.{cubicsOf, verdictOf}
+use Rattle.pixel.specs.Gate.{sigmaOf, peakOf, strongOf, curvedOf, gateBy, ownGateBy}
+use Rattle.pixel.specs.Verdict.{verdictOf}
 use Rattle.pixel.specs.Rules.{cubicsAt, ownSamples, ownCubic, ownSigma, ownPeak}
 use Rattle.pixel.specs.declared.Frame.{Frame}
 use Rattle.pixel.specs.declared.Verdict.the-variants.{Nothing}

@@ -1,15 +1,14 @@
 -- What the lists rule out lists nothing. Assumes nothing.
-use Prim.Native.Nat.{ℕ, zero, suc, _+_, _/_, _%_, _≤_, _<_}
+use Prim.Native.Nat.{ℕ, zero, suc, _+_, _/_, _%_, _<_}
 use native.Mathlib.Omega.{arith}
 use mathlib.Core.Path.{_≡_, refl, sym, ap, _∙_, subst}
 use mathlib.Core.Bool.{Bool, true, false, true≢false, false≢true, cond, not, _&&_, _||_}
 use mathlib.Core.List.{List, []}
-use mathlib.Core.Logic.{_⊎_, inl, inr}
 use lib.Dec.{T, eqb, leb}
 use lib.ListN.{length, getD}
 use lib.Seq.{ext-getD}
 use borrow.Author.Tests.{le-leb, lt-leb}
-use lib.Ieee.{Float, lt, le, isNan, binary32, fits}
+use lib.Ieee.{Float, lt, le, isNan}
 use Rattle.float.specs.Num.{_⊗_, f0}
 use Rattle.float.proofs.Bools.{both, neither}
 use Rattle.float.proofs.Order.{below-number}
@@ -20,9 +19,8 @@ use Rattle.fit.specs.Cubic.{_at_, coeffsOf, hornerOf}
 use Rattle.fit.specs.Band.{signOf, stationaryOf, bandOf}
 use Rattle.fit.specs.Owned.{ownedBy}
 use Rattle.fit.specs.declared.Band.{Band}
-use Rattle.fit.specs.declared.Stationary.the-variants.{At, Nowhere}
+use Rattle.fit.specs.declared.Stationary.the-variants.{At}
 use Rattle.refine.specs.Refine.{refineOf}
-use Rattle.refine.specs.declared.Spot.{Spot}
 use Rattle.refine.specs.declared.Refined.{Refined}
 use Rattle.refine.specs.declared.Refined.the-variants.{Accepted, Rejected}
 use Rattle.pixel.specs.Verdict.{verdictOf}

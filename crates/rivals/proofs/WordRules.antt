@@ -1,16 +1,14 @@
 -- A word whose bit of a polarity and whose open bit are not set rules the pixel out at that polarity. Assumes nothing.
 use Prim.Native.Nat.{ℕ, _/_, _%_, _<_}
-use mathlib.Core.Path.{_≡_, refl, sym, ap, _∙_, subst}
+use mathlib.Core.Path.{_≡_, refl, sym, ap, _∙_}
 use mathlib.Core.List.{List}
 use mathlib.Core.Bool.{Bool, true, false, true≢false, false≢true, cond, _&&_, _||_, and-assoc}
-use lib.Dec.{T}
-use lib.ListN.{length}
-use lib.Ieee.{Float, lt, le, neg, ofBits, odd, binary32, fits}
-use Rattle.float.specs.Num.{_⊗_, f0, f1}
+use lib.Ieee.{Float, lt, le, neg, ofBits, odd}
+use Rattle.float.specs.Num.{f0, f1}
 use Rattle.float.proofs.Bools.{neither}
 use Rattle.tables.specs.declared.Set.{Set}
 use Rattle.tables.specs.declared.Thresholds.{Thresholds}
-use Rattle.fit.specs.Cubic.{_at_, coeffsOf, hornerOf}
+use Rattle.fit.specs.Cubic.{_at_, coeffsOf}
 use Rattle.fit.specs.Envelope.{within}
 use Rattle.fit.specs.Band.{signOf}
 use Rattle.fit.specs.Owned.{ownedBy}

@@ -1,11 +1,10 @@
 // Candidates that a neighbour reaches at an end of the band, and those that the refinement refuses.
 ghost use mathlib.Core.Path.{_≡_};
-ghost use mathlib.Core.Bool.{true, false, cond, not, _||_, _&&_};
+ghost use mathlib.Core.Bool.{true, false, cond, _||_};
 ghost use Prim.Native.Nat.{_+_, _%_, _≤_, _<_};
-ghost use lib.ListN.{length, getD};
-ghost use lib.Dec.{leb};
+ghost use lib.ListN.{length};
 ghost use Rattle.fit.specs.Cubic.{_at_};
-ghost use Rattle.fit.specs.Band.{signOf, bandOf};
+ghost use Rattle.fit.specs.Band.{signOf};
 ghost use Rattle.refine.specs.Refine.{refineOf};
 ghost use Rattle.columns.specs.Stat.{cubicIn};
 ghost use Rattle.rivals.specs.List.{Coded, Raised};

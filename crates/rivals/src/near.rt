@@ -1,8 +1,8 @@
 // Candidates that a neighbour's stationary point reaches.
 ghost use mathlib.Core.Path.{_≡_};
-ghost use mathlib.Core.Bool.{true, cond, not, _||_};
+ghost use mathlib.Core.Bool.{true, cond, _||_};
 ghost use Prim.Native.Nat.{_+_, _≤_, _<_};
-ghost use lib.ListN.{length, getD};
+ghost use lib.ListN.{length};
 ghost use Rattle.fit.specs.Cubic.{_at_};
 ghost use Rattle.rivals.specs.List.{Coded, Thinned};
 ghost use Rattle.rivals.specs.Near.{reaches, reachedOf};

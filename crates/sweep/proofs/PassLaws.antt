@@ -2,20 +2,19 @@
 use Prim.Native.Nat.{ℕ, zero, suc, _+_, _-_, _*_, _/_, _%_, _≤_, _<_}
 use native.Mathlib.Nat.{eq-or-lt-of-le}
 use native.Mathlib.Omega.{arith}
-use mathlib.Core.Path.{_≡_, refl, sym, ap, _∙_, subst}
+use mathlib.Core.Path.{_≡_, sym, _∙_, subst}
 use mathlib.Core.Bool.{Bool, true, false, cond, not}
 use mathlib.Core.Logic.{_⊎_, inl, inr}
-use mathlib.Core.List.{List, []}
+use mathlib.Core.List.{List}
 use lib.Dec.{T, eqb, ltb, ltb→lt, nltb→le}
 use lib.ListN.{length, getD}
 use lib.Ieee.{Float}
 use Rattle.tables.specs.declared.Set.{Set}
-use Rattle.tables.specs.declared.Thresholds.{Thresholds}
 use Rattle.pixel.specs.declared.Verdict.the-variants.{Nothing}
 use Rattle.samples.specs.Level.{Maps, samplesAt, nineAt}
 use Rattle.samples.proofs.LevelLaws.{length-nine, nine-place}
 use Rattle.rivals.specs.Off.{Thin}
-use Rattle.rivals.specs.Ready.{ReadyAt, Slot, placeOf, Around}
+use Rattle.rivals.specs.Ready.{ReadyAt, placeOf, Around}
 use Rattle.rivals.proofs.OffRules.{off-rules}
 use Rattle.sweep.specs.Marks.{markAt, Put}
 use Rattle.sweep.specs.Column.{Rings, Filled}

@@ -9,6 +9,7 @@ pub mod levels;
 mod limits;
 pub mod maps;
 mod mirrored;
+pub mod odd;
 mod overshoot;
 pub mod random;
 pub mod records;

@@ -283,7 +283,7 @@ fn sound(random: &mut Random, set: &Set, rows: usize, cols: usize) -> Levels {
 }
 
 /// Every pixel multiplied by a power of two, up to overflow and down to subnormals.
-fn resize(random: &mut Random, levels: &mut Levels) {
+pub(crate) fn resize(random: &mut Random, levels: &mut Levels) {
     let shift = match random.below(4) {
         0 => random.from_to(118, 128) as i32,
         1 => -(random.from_to(125, 150) as i32),

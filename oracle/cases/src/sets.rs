@@ -206,6 +206,14 @@ pub fn every_pixel() -> Set {
     set
 }
 
+/// A real-looking set whose cubics have subnormal discriminants: their slopes are tiny, and so is the first sigma.
+pub fn tiny_slopes(random: &mut Random) -> Set {
+    let mut set = real(random);
+    set.sigmas[0] = 1e-22;
+    set.scale = [0., 0., 1., 0., 0., 0., 0., 1e-39, 0., 0., 1., 0.];
+    set
+}
+
 /// A good set of any kind.
 pub fn any(random: &mut Random) -> Set {
     match random.below(20) {

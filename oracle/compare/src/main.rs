@@ -8,6 +8,8 @@ mod plan;
 #[cfg(feature = "probe")]
 mod probed;
 mod search;
+#[cfg(feature = "archive")]
+mod soak;
 #[cfg(feature = "probe")]
 mod steps;
 mod tally;
@@ -26,6 +28,7 @@ const USE: &str = "use: compare own [SEED [TIMES]]
      compare tally [SEED [TIMES]]
      compare run SEED TIMES PROGRAM [ARGUMENTS]
      compare archive SEED TIMES               (built with the feature `archive`; 2,000,000 corrections a time beside the families)
+     compare soak SEED MAPS [FIRST]           (built with the feature `archive`; from the map of number FIRST on)
      compare probe SEED CASES_A_FUNCTION      (built with the feature `probe`)
      compare steps SEED [EVERY]               (built with the feature `probe`; every 256th pattern where EVERY is not given)
      compare one FAMILY SEED NUMBER [PLACE VALUE_BITS] [-- PROGRAM [ARGUMENTS]]
@@ -53,6 +56,12 @@ fn main() -> ExitCode {
         }
         #[cfg(feature = "archive")]
         Some("archive") => archive(number(1, SEED), number(2, 1) as usize),
+        #[cfg(feature = "archive")]
+        Some("soak") if words.len() > 2 => soak::run(
+            number(1, SEED),
+            number(2, 1) as usize,
+            number(3, 0) as usize,
+        ),
         #[cfg(feature = "probe")]
         Some("probe") if words.len() > 2 => probed::run(number(1, SEED), number(2, 1) as usize),
         #[cfg(feature = "probe")]

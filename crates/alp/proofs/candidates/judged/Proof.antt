@@ -1,12 +1,8 @@
 -- `candidates::judged` meets its contract: two verdicts laid one after the other.
 use mathlib.Core.Bool.{true, false}
-use mathlib.Core.Path.{_≡_, refl, ap, _∙_}
-use mathlib.Core.List.{List}
 use native.Mathlib.Omega.{arith}
-use lib.Ieee.{Float}
-use Rattle.pixel.specs.Verdict.{verdictOf}
 use Rattle.samples.specs.Level.{mapsOf}
-use Rattle.alp.specs.Due.{judgeOf, pixelDue}
+use Rattle.alp.specs.Due.{pixelDue}
 use Rattle.alp.proofs.DueLaws.{laid-append, listed-short, judged-by}
 use borrow.Author.Needs.{needs}
 use Rattle.alp.proofs.candidates.judged.Statement.{statement}

@@ -1,7 +1,6 @@
 -- `gate::is_owned_high` meets its contract.
 use mathlib.Core.Path.{refl}
 use Rattle.fit.specs.Owned.{ownedBy}
-use borrow.Author.Needs.{needs}
 use Rattle.columns.proofs.gate.is_owned_high.Statement.{statement}
 use Rattle.columns.proofs.gate.is_owned_high.Tie as tie
 

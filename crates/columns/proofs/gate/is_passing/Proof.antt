@@ -1,7 +1,6 @@
 -- `gate::is_passing` meets its contract.
 use mathlib.Core.Path.{refl}
 use Rattle.columns.specs.Gate.{passOf}
-use borrow.Author.Needs.{needs}
 use Rattle.columns.proofs.gate.is_passing.Statement.{statement}
 use Rattle.columns.proofs.gate.is_passing.Tie as tie
 

@@ -1,5 +1,5 @@
 -- `quick::guessed::tried` meets its contract. Assumes nothing.
-use mathlib.Core.Path.{_≡_, sym, ap, _∙_, subst}
+use mathlib.Core.Path.{sym, ap, _∙_, subst}
 use Prim.Native.Nat.{ℕ, _≤_, _<_}
 use lib.Dec.{T, eqb, eqb→eq}
 use borrow.Author.Needs.{needs}

@@ -1,6 +1,5 @@
 -- `thin::thin` meets its contract: where no word has a bit there is nothing to list.
-use native.Mathlib.Omega.{arith}
-use mathlib.Core.Path.{_≡_, subst}
+use mathlib.Core.Path.{subst}
 use Prim.Native.Nat.{ℕ, _+_, _≤_}
 use lib.ListN.{getD}
 use Rattle.rivals.proofs.ThinLaws.{thin-none}

@@ -1,6 +1,5 @@
 -- `block::refresh` meets its contract.
-use Prim.Native.Nat.{ℕ, _-_, _%_, _<_}
-use mathlib.Core.Path.{_≡_}
+use Prim.Native.Nat.{_-_}
 use native.Mathlib.Omega.{arith}
 use Rattle.samples.specs.Level.{mapsOf}
 use Rattle.sweep.proofs.PassLaws.{height-fits, block-begun}

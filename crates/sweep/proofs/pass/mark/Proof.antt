@@ -3,7 +3,6 @@ use Prim.Native.Nat.{ℕ}
 use native.Mathlib.Omega.{arith}
 use lib.ListN.{length-replicate}
 use Rattle.sweep.proofs.PassLaws.{passed-by}
-use borrow.Author.Needs.{needs}
 use Rattle.sweep.proofs.pass.mark.Statement.{statement}
 use Rattle.sweep.proofs.pass.mark.Tie as tie
 

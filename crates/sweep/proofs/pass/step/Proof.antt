@@ -1,5 +1,5 @@
 -- `pass::step` meets its contract: the column's lines first, then the marks of the one before it.
-use Prim.Native.Nat.{_+_, _-_, _*_, _%_}
+use Prim.Native.Nat.{_+_, _*_, _%_}
 use native.Mathlib.Omega.{arith}
 use Rattle.samples.specs.Level.{mapsOf}
 use Rattle.sweep.proofs.ReadLaws.{a-column, column-small, reach-map, filled-map}

@@ -1,7 +1,6 @@
 -- `pass::sweep` meets its contract. The loop's invariant: what stands before the column col.
-use Prim.Native.Nat.{ℕ, _+_, _-_, _≤_}
+use Prim.Native.Nat.{ℕ, _-_, _≤_}
 use native.Mathlib.Omega.{arith}
-use mathlib.Core.Path.{_≡_}
 use lib.ListN.{length-replicate}
 use lib.Ieee.{Float}
 use Rattle.float.specs.Num.{f0}

@@ -1,0 +1,79 @@
+/* From C: how many bytes of stack levels and detection take, each on a painted stack of its own. PROCESSOR and a set's file are given; says what failed. */
+#define _XOPEN_SOURCE 700
+#include <math.h>
+#include <stdint.h>
+#include <stdio.h>
+#include <stdlib.h>
+#include <string.h>
+#include <ucontext.h>
+
+#include "uramsheg.h"
+
+enum { SIDE = 300, LONGEST = 4096 };
+
+static uint8_t stack[1 << 20], set[URAMSHEG_SET_BYTES], list[URAMSHEG_SPOT_BYTES * SIDE * SIDE];
+static float level[4][SIDE * SIDE];
+static bool is_done;
+static uint64_t spots;
+
+/* The longest columns, with the widest kernels. */
+static void levels(void) {
+    enum { PIXELS = LONGEST * 3 };
+    static float raw[PIXELS];
+    uint8_t broad[URAMSHEG_SET_BYTES] = {0};
+    memcpy(broad, (float[4]){1, 5, 6, 7}, 16); /* the record is little-endian, as this machine is */
+    is_done = !uramsheg_levels(broad, sizeof broad, LONGEST, 3, 0, raw, PIXELS, level[0], PIXELS, level[1], PIXELS, level[2], PIXELS, level[3], PIXELS);
+}
+
+static bool detected(float low, float high) {
+    uint64_t found = 0;
+    uint32_t number = uramsheg_detect(set, sizeof set, 0, 0, 12.1f, low, high, SIDE, SIDE, 0, level[0], SIDE * SIDE, level[1], SIDE * SIDE,
+                                      level[2], SIDE * SIDE, level[3], SIDE * SIDE, list, sizeof list, &found);
+    spots += found;
+    return number == 0;
+}
+
+/* Noise of four heights, some of it lost; under a usual window, and under one that holds 0, by which the pass rules next to nothing out. */
+static void detection(void) {
+    static const float heights[4] = {1, 1e-3f, 1e-18f, 1e-40f};
+    uint32_t state = 1;
+    is_done = true;
+    for (int run = 0; run < 4; run++) {
+        for (int i = 0; i < 4 * SIDE * SIDE; i++) {
+            state = state * 1664525 + 1013904223;
+            level[i % 4][i / 4] = state >> 24 ? ((float)(state >> 8) / 8388608 - 1) * heights[run] : NAN;
+        }
+        is_done = is_done && detected(1.9f, 4.1f) && detected(-1, 9);
+    }
+    is_done = is_done && spots > 0;
+}
+
+/* The bytes that a call takes of the stack, which is painted before. */
+static size_t taken_by(void (*call)(void)) {
+    static ucontext_t here, there;
+    size_t kept = 0;
+    memset(stack, 0xa5, sizeof stack);
+    getcontext(&there);
+    there.uc_stack.ss_sp = stack;
+    there.uc_stack.ss_size = sizeof stack;
+    there.uc_link = &here;
+    makecontext(&there, call, 0);
+    swapcontext(&here, &there);
+    while (kept < sizeof stack && stack[kept] == 0xa5) kept++;
+    return sizeof stack - kept;
+}
+
+static bool holds(const char *processor, const char *name, void (*call)(void), size_t most) {
+    size_t taken = taken_by(call);
+    bool held = is_done && taken < most;
+    printf("%s %s: %s: %zu bytes of stack, fewer than %zu\n", held ? "ok" : "FAILED", processor, name, taken, most);
+    return held;
+}
+
+int main(int count, char **words) {
+    FILE *file = count == 3 ? fopen(words[2], "rb") : NULL;
+    if (!file || fread(set, 1, sizeof set, file) != sizeof set) return 2;
+    fclose(file);
+    bool held = holds(words[1], "levels", levels, 51200);
+    return !(holds(words[1], "detection", detection, 262144) && held);
+}
