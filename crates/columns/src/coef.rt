@@ -6,8 +6,9 @@ ghost use Prim.Native.Nat.{_+_, _≤_, _<_};
 ghost use lib.Ieee.{lt};
 ghost use Rattle.float.specs.Small.{absOf};
 ghost use Rattle.float.specs.Num.{f1e-6};
-ghost use Rattle.fit.specs.Cubic.{_at_, rowOf, coeffsOf};
+ghost use Rattle.fit.specs.Cubic.{_at_, coeffsOf};
 ghost use Rattle.columns.specs.Coef.{underRootOf, Stored, Coefs, Sizes};
+use fit::scale_fit::row;
 
 pub fn pick(test: bool, x: f32, y: f32) -> f32
     ensures { λ r. ⌜ r ≡ cond test x y ⌝ }
@@ -20,14 +21,6 @@ pub fn beyond(x: f32) -> bool
     ensures { λ r. ⌜ r ≡ lt f1e-6 (absOf x) ⌝ }
 {
     (x > 1e-6) | (x < -1e-6)
-}
-
-// Three entries of a table, from the i-th on, weighing three differences.
-fn row(t: &[f32; 12], i: usize, d0: f32, d1: f32, d2: f32) -> f32
-    requires { ⌜ i ≤ 9 ⌝ }
-    ensures { λ r. ⌜ r ≡ rowOf (now (t .entry)) i d0 d1 d2 ⌝ }
-{
-    t[i] * d0 + t[i + 1] * d1 + t[i + 2] * d2
 }
 
 // The discriminant of a cubic's derivative, and 0 for a quadratic.

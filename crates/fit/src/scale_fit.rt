@@ -19,7 +19,7 @@ ghost use Rattle.fit.specs.Band.{bandOf, finiteCubic, signOf, stationary
 ghost use Rattle.fit.specs.Owns.{ownsOf};
 
 // Three entries of a table, from the i-th on, weighing the three differences.
-fn row(transform: &[f32; 12], i: usize, d0: f32, d1: f32, d2: f32) -> f32
+pub fn row(transform: &[f32; 12], i: usize, d0: f32, d1: f32, d2: f32) -> f32
     requires { ⌜ i ≤ 9 ⌝ }
     ensures { λ r. ⌜ r ≡ rowOf (now (transform .entry)) i d0 d1 d2 ⌝ }
 {
@@ -104,7 +104,8 @@ fn is_finite_cubic(k: [f32; 4]) -> bool
         & float::is_finite(k[3])
 }
 
-fn sign_of(is_max: bool) -> f32
+// 1 for a maximum, -1 for a minimum.
+pub fn sign_of(is_max: bool) -> f32
     ensures { λ r. ⌜ r ≡ signOf «is_max» ⌝ }
 {
     if is_max { 1.0 } else { -1.0 }

@@ -7,6 +7,8 @@ use prog.Memory.{Memory}
 use prog.Routine.{Routine}
 use ghost.Atoms.{Atoms}
 use contract.Monad.{Fun}
+use Rattle.fit.proofs.scale_fit.row as row
+use Rattle.fit.proofs.scale_fit.sign_of as sign-of
 use Rattle.fit.proofs.scale_fit.apply_cubic_transform as apply-cubic-transform
 use Rattle.fit.proofs.scale_fit.compute_poly_coeffs as compute-poly-coeffs
 use Rattle.fit.proofs.scale_fit.compute_geometry_poly_coeffs as compute-geometry-poly-coeffs
@@ -58,6 +60,12 @@ use Rattle.promises.proofs.Facts.{both-told, one-answer, untouched}
 
 module _ {M : Type 1} (𝓤 : URA M) (H : Heap 𝓤) (A : Atoms 𝓤) (mem : Memory → SProp 𝓤) (run : Routine → Fun 𝓤) where
   -- ---- the fits
+
+  pub row-settled : Settles 𝓤 row.ended (row.clauses 𝓤 H A mem run)
+  row-settled κs a g g' r r' ws ws' = one-answer 𝓤 _
+
+  pub sign-of-settled : Settles 𝓤 sign-of.ended (sign-of.clauses 𝓤 H A mem run)
+  sign-of-settled κs a g g' r r' ws ws' = one-answer 𝓤 _
 
   pub apply-cubic-transform-settled : Settles 𝓤 apply-cubic-transform.ended (apply-cubic-transform.clauses 𝓤 H A mem run)
   apply-cubic-transform-settled κs a g g' r r' ws ws' = one-answer 𝓤 _

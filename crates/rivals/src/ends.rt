@@ -4,12 +4,12 @@ ghost use mathlib.Core.Bool.{true, false, cond, _||_};
 ghost use Prim.Native.Nat.{_+_, _%_, _≤_, _<_};
 ghost use lib.ListN.{length};
 ghost use Rattle.fit.specs.Cubic.{_at_};
-ghost use Rattle.fit.specs.Band.{signOf};
 ghost use Rattle.refine.specs.Refine.{refineOf};
 ghost use Rattle.columns.specs.Stat.{cubicIn};
 ghost use Rattle.rivals.specs.List.{Coded, Raised};
 ghost use Rattle.rivals.specs.Ends.{ends, endedOf, nineIn, spotOf, acceptedOf, survivesOf};
 use fit::Band;
+use fit::scale_fit::sign_of;
 use refine::Refined;
 use refine::Spot;
 use tables::Set;
@@ -68,12 +68,6 @@ fn is_three(
     is_ending(cubic_at(a, b, c, d, m), sign, val, band)
         | is_ending(cubic_at(a, b, c, d, m + 1), sign, val, band)
         | is_ending(cubic_at(a, b, c, d, m + 2), sign, val, band)
-}
-
-fn sign_of(is_max: bool) -> f32
-    ensures { λ r. ⌜ r ≡ signOf «is_max» ⌝ }
-{
-    if is_max { 1.0 } else { -1.0 }
 }
 
 // A neighbour of the candidate at place h + 1 reaches its value val.
