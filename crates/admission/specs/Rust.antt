@@ -22,7 +22,7 @@ use Rattle.pixel.specs.Ring.{ringBy}
 use Rattle.pixel.specs.Verdict.{anchorOf, recordOf}
 use Rattle.pixel.specs.Rules.{cubicsAt, ownSamples, ownCubic}
 use Rattle.samples.specs.Level.{Maps, nineAt}
-use Rattle.alp.specs.Due.{listed}
+use Rattle.pixel.specs.Listed.{listed}
 use Rattle.zeros.specs.Choices.{Choices, allOurs}
 
 -- the envelope of a pixel's own samples, by a choice of zeros

@@ -15,7 +15,8 @@ use Rattle.tables.proofs.RefusalLaws.{unless-fine}
 use Rattle.tables.proofs.ThresholdsLaws.{Numbers, passed-numbers}
 use Rattle.record.proofs.LayoutLaws.{lay-laid}
 use Rattle.samples.specs.Level.{Maps, Sized}
-use Rattle.alp.specs.Due.{due, Laid}
+use Rattle.record.specs.Layout.{Laid}
+use Rattle.alp.specs.Due.{due}
 use Rattle.checks.specs.Checks.{detectChecks}
 use Rattle.alp.specs.Detect.{outcome, detected}
 use Rattle.alp.specs.declared.Answer.the-variants.{Found}

@@ -4,30 +4,16 @@ ghost use mathlib.Core.Bool.{false};
 ghost use mathlib.Core.List.{[]};
 ghost use Prim.Native.Nat.{_+_, _-_, _<_, _≤_, _^_};
 ghost use lib.ListN.{length};
+ghost use Rattle.record.specs.Layout.{Laid};
 ghost use Rattle.samples.specs.Level.{mapsOf, Within, Sized};
-ghost use Rattle.alp.specs.Due.{listed, pixelDue, rowDue, due, Laid};
+ghost use Rattle.alp.specs.Due.{pixelDue, rowDue, due};
 ghost use Rattle.sweep.specs.Ruled.{Block};
 use pixel::Frame;
-use pixel::Verdict;
 use samples::level;
 use sweep::bits::is_marked;
 use sweep::block::refresh;
 use tables::Set;
 use tables::Thresholds;
-
-// What a verdict lists goes to place n; answers the next place.
-fn emit(out: &mut [u8], n: usize, v: Verdict) -> usize
-    requires { ⌜ n < 2 ^ 32 ⌝ }
-    ensures { λ r. ⌜ Laid (now (out .entry)) (now (out .exit)) n r (listed v) ⌝ }
-{
-    match v {
-        Verdict::Listed(r) => {
-            record::put_at(out, n, r);
-            n + 1
-        }
-        Verdict::Nothing => n,
-    }
-}
 
 // What a pixel lists: the minimum before the maximum.
 fn judged<'a>(
@@ -51,11 +37,7 @@ fn judged<'a>(
 {
     let sigmas = set.sigmas;
     let nine = level::nine_at(l0, l1, l2, l3, f, sigmas, row, col);
-    let both = pixel::judge::listing(set, th, f, &nine, row, col);
-    let low = both.low;
-    let high = both.high;
-    let m = emit(out, n, low);
-    emit(out, m, high)
+    pixel::listed::lay_listing(set, th, f, &nine, row, col, out, n)
 }
 
 // What a pixel lists, told whether it is marked. Most pixels are not.

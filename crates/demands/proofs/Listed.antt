@@ -12,8 +12,9 @@ use Rattle.pixel.specs.declared.Verdict.{Verdict}
 use Rattle.pixel.specs.declared.Verdict.the-variants.{Listed, Nothing}
 use Rattle.pixel.specs.Verdict.{polarityOf}
 use Rattle.samples.specs.Level.{Maps}
-use Rattle.alp.specs.Due.{judgeOf, listed, pixelDue, rowDue, rowsDue, due}
-use Rattle.alp.proofs.DueLaws.{listed-short}
+use Rattle.pixel.specs.Listed.{listed}
+use Rattle.alp.specs.Due.{judgeOf, pixelDue, rowDue, rowsDue, due}
+use Rattle.pixel.proofs.ListedLaws.{listed-short}
 use Rattle.demands.specs.List.{StandsAt, Stands, Judged, AdmitsAt, Admitted, Rising, Of, OnlyOne}
 use Rattle.demands.proofs.Judge.{judged-admits, admits-judged, judged-key, judged-polarity}
 use Rattle.demands.proofs.Places.{at-short, stands-left, stands-right, stands-cases, rising-append, rising-once}

@@ -5,3 +5,4 @@ pub mod RingLaws
 pub mod VerdictLaws
 pub mod OrderLaws
 pub mod RuleOut
+pub mod ListedLaws

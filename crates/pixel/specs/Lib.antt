@@ -3,3 +3,4 @@ pub mod Gate
 pub mod Ring
 pub mod Verdict
 pub mod Rules
+pub mod Listed

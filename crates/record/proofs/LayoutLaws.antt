@@ -13,7 +13,7 @@ use borrow.Author.Tests.{le-leb, lt-leb}
 use Rattle.words.specs.Words.{wordBytes, floatBytes}
 use Rattle.words.proofs.Stores.{sets-append}
 use Rattle.words.proofs.WordsLaws.{length-wordBytes}
-use Rattle.record.specs.Layout.{spotWidth, floats4, recordBytes, put, lay, bytesOf, laid, written}
+use Rattle.record.specs.Layout.{spotWidth, floats4, recordBytes, put, lay, bytesOf, laid, written, Laid}
 use Rattle.record.specs.declared.Record.{Record}
 
 -- ---- lengths
@@ -133,3 +133,18 @@ laid-keeps rs out i h =
     let k : ℕ = written rs out * spotWidth in
     let e : k + (i - k) ≡ i = omega arith in
     rw (← e, ← getD-drop k (laid rs out) (i - k) 0, laid-rest rs out, getD-drop k out (i - k) 0)
+
+-- ---- laying by turns
+
+pub laid-none : {out : List ℕ} {n : ℕ} → Laid out out n n []
+laid-none = record { count = sym (add-zero _); bytes = sym (lay-none _ _) }
+
+-- what is laid in two parts, one after the other
+pub laid-append : {a b c : List ℕ} {n m k : ℕ} {rs ss : List Record} → Laid a b n m rs → Laid b c m k ss → Laid a c n k (rs ++ ss)
+laid-append {a} {b} {c} {n} {m} {k} {rs} {ss} p q = record {
+  count = omega (arith, length-append rs ss, p .count, q .count);
+  bytes = q .bytes ∙ rw (p .bytes, p .count) (sym (lay-append rs ss a n));
+}
+
+pub laid-length : {a b : List ℕ} {n m : ℕ} {rs : List Record} → Laid a b n m rs → length b ≡ length a
+laid-length {a} {b} {n} {m} {rs} p = ap length (p .bytes) ∙ length-lay rs a n

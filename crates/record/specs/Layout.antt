@@ -1,5 +1,6 @@
 -- The bytes of a record, written and read, and how records lie in a buffer. Definitions only.
 use Prim.Native.Nat.{ℕ, suc, _+_, _*_, _/_, _^_, _<_, min}
+use mathlib.Core.Path.{_≡_}
 use mathlib.Core.Bool.{cond}
 use mathlib.Core.List.{List, [], _∷_, _++_}
 use lib.ListN.{getD, length, take, drop}
@@ -46,6 +47,11 @@ laid rs out = let b = bytesOf (take (length out / spotWidth) rs) in b ++ drop (l
 -- how many of the records fit
 abbrev pub written : List Record → List ℕ → ℕ
 written rs out = min (length out / spotWidth) (length rs)
+
+-- what a function that lays rs from place n on answers and leaves
+pub record Laid (out out' : List ℕ) (n r : ℕ) (rs : List Record) : Type 0 where
+  pub count : r ≡ n + length rs
+  pub bytes : out' ≡ lay out n rs
 
 -- ---- reading
 

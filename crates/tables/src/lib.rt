@@ -45,6 +45,7 @@ pub enum Refusal {
     Room,
     NoSize(Missing),
     Thresholds,
+    Past,
 }
 
 // The outcome of a check.

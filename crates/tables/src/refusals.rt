@@ -27,6 +27,7 @@ pub fn number_of(why: Refusal) -> u32
         Refusal::Room => 6,
         Refusal::NoSize(_) => 7,
         Refusal::Thresholds => 8,
+        Refusal::Past => 9,
     }
 }
 
@@ -43,5 +44,6 @@ pub fn value_of(why: Refusal) -> u64
         Refusal::BadSet => 0,
         Refusal::Room => 0,
         Refusal::Thresholds => 0,
+        Refusal::Past => 0,
     }
 }

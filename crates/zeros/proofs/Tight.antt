@@ -23,7 +23,7 @@ use Rattle.pixel.specs.Ring.{allOf, beatsBy, ringBy}
 use Rattle.pixel.specs.Verdict.{cubicsOf, wholePlace, wholeOf, anchorOf, polarityOf, recordOf, admitOf, verdictBy}
 use Rattle.grid.specs.Grid.{pixelAt}
 use Rattle.samples.specs.Level.{stencilOf, sampleAt, samplesOf, placesOf}
-use Rattle.alp.specs.Due.{listed}
+use Rattle.pixel.specs.Listed.{listed}
 use Rattle.zeros.specs.Choices.{AllAllowed, allOurs, judgeBy, pixelDueBy, rowDueBy, rowsDueBy, dueBy}
 use Rattle.zeros.specs.Example.{darkened, darkMin, bowlSet, lenient, flatLevel, pointLevel, pitLevel, pitMaps, pitBytes}
 

@@ -7,7 +7,7 @@ use Rattle.fit.specs.Prims.{Prims, Allowed, ours}
 use Rattle.pixel.specs.declared.Verdict.{Verdict}
 use Rattle.pixel.specs.Verdict.{verdictBy}
 use Rattle.samples.specs.Level.{Maps, nineAt}
-use Rattle.alp.specs.Due.{listed}
+use Rattle.pixel.specs.Listed.{listed}
 
 -- the choices at the i-th of the nine places of the pixel (row, col), at a polarity
 abbrev pub Choices : Type 0

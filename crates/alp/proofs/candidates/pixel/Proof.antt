@@ -1,5 +1,5 @@
 -- `candidates::pixel` meets its contract: a pixel without a mark lists nothing.
-use Rattle.alp.proofs.DueLaws.{laid-none}
+use Rattle.record.proofs.LayoutLaws.{laid-none}
 use borrow.Author.Tests.{not-true}
 use borrow.Author.Needs.{needs}
 use Rattle.alp.proofs.candidates.pixel.Statement.{statement}

@@ -6,8 +6,10 @@ use Prim.Native.Nat.{_+_, _%_, _≤_, _-_}
 use Rattle.samples.specs.Level.{mapsOf}
 use Rattle.sweep.proofs.MarksLaws.{mark-none}
 use Rattle.sweep.proofs.PassLaws.{unmarked-nothing}
-use Rattle.alp.specs.Due.{Laid, rowDue}
-use Rattle.alp.proofs.DueLaws.{laid-none, laid-append, laid-length, nothing-listed, rowDue-short}
+use Rattle.record.specs.Layout.{Laid}
+use Rattle.alp.specs.Due.{rowDue}
+use Rattle.record.proofs.LayoutLaws.{laid-none, laid-append, laid-length}
+use Rattle.alp.proofs.DueLaws.{nothing-listed, rowDue-short}
 use Rattle.alp.proofs.candidates.row_spots.Statement.{statement}
 use Rattle.alp.proofs.candidates.row_spots.Tie as tie
 

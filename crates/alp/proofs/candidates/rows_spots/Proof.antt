@@ -6,8 +6,10 @@ use Prim.Native.Nat.{ℕ, _%_, _≤_, _<_, _-_}
 use lib.ListN.{length, length-replicate}
 use Rattle.samples.specs.Level.{mapsOf}
 use Rattle.sweep.specs.Ruled.{Block}
-use Rattle.alp.specs.Due.{Laid, rowsDue, due}
-use Rattle.alp.proofs.DueLaws.{laid-none, laid-append, laid-length, rowsDue-short}
+use Rattle.record.specs.Layout.{Laid}
+use Rattle.alp.specs.Due.{rowsDue, due}
+use Rattle.record.proofs.LayoutLaws.{laid-none, laid-append, laid-length}
+use Rattle.alp.proofs.DueLaws.{rowsDue-short}
 use Rattle.sweep.proofs.PassLaws.{block-next}
 use Rattle.alp.proofs.candidates.rows_spots.Statement.{statement}
 use Rattle.alp.proofs.candidates.rows_spots.Tie as tie

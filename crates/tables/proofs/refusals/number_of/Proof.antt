@@ -28,6 +28,9 @@ enum-told-7 c = search needs
 enum-told-8 : tie.Need-enum-told-8
 enum-told-8 c = search needs
 
+enum-told-9 : tie.Need-enum-told-9
+enum-told-9 c = search needs
+
 returns : tie.Need-returns
 unfolding number
 returns c = rw (c .enum-told .given .1)
@@ -60,6 +63,10 @@ returns-8 : tie.Need-returns-8
 unfolding number
 returns-8 c = rw (c .enum-told8 .given .1)
 
+returns-9 : tie.Need-returns-9
+unfolding number
+returns-9 c = rw (c .enum-told9 .given .1)
+
 pub number-of-spec : {M : Type 1} → statement M
 number-of-spec =
     tie.close
@@ -72,6 +79,7 @@ number-of-spec =
     enum-told-6
     enum-told-7
     enum-told-8
+    enum-told-9
     returns
     returns-2
     returns-3
@@ -79,4 +87,5 @@ number-of-spec =
     returns-5
     returns-6
     returns-7
-    returns-8)
+    returns-8
+    returns-9)

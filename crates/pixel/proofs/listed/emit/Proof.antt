@@ -1,11 +1,10 @@
--- `candidates::emit` meets its contract.
+-- `listed::emit` meets its contract.
 use mathlib.Core.Path.{refl, sym, _∙_}
-use Rattle.record.proofs.LayoutLaws.{lay-one}
-use Rattle.alp.specs.Due.{listed}
-use Rattle.alp.proofs.DueLaws.{laid-none}
+use Rattle.record.proofs.LayoutLaws.{lay-one, laid-none}
+use Rattle.pixel.specs.Listed.{listed}
 use borrow.Author.Needs.{needs}
-use Rattle.alp.proofs.candidates.emit.Statement.{statement}
-use Rattle.alp.proofs.candidates.emit.Tie as tie
+use Rattle.pixel.proofs.listed.emit.Statement.{statement}
+use Rattle.pixel.proofs.listed.emit.Tie as tie
 
 enum-known-v : tie.Need-enum-known-v
 enum-known-v c = search needs
