@@ -10,7 +10,7 @@ ghost use Rattle.alp.specs.Due.{pixelDue, rowDue, due};
 ghost use Rattle.sweep.specs.Ruled.{Block};
 use pixel::Frame;
 use samples::level;
-use sweep::bits::is_marked;
+use marks::is_marked;
 use sweep::block::refresh;
 use tables::Set;
 use tables::Thresholds;

@@ -11,13 +11,13 @@ use Rattle.columns.specs.Line.{Written}
 unfoldable pub stencilAt : List Float → ℕ → ℕ → ℕ → Float → Float
 stencilAt l left mid right square = (l at left ⊕ l at right ⊕ l at (mid - 1) ⊕ l at (mid + 1) ⊖ f4 ⊗ l at mid) ⊗ square
 
--- n places from each offset on, and those above and below mid, lie in a list of len
+-- n places from each offset on, and those above and below mid, lie in a list of len; the offsets are small
 pub record Reach (len left mid right n : ℕ) : Type 0 where
   pub up : 1 ≤ mid
   pub down : mid + n < len
   pub before : left + n ≤ len
   pub after : right + n ≤ len
-  pub most : len ≤ 16777216
+  pub most : left + mid + right ≤ 50331648
 
 -- the samples of n places of four levels
 pub record Samples (l0 l1 l2 l3 : List Float) (q0 q1 q2 q3 : Float) (left mid right n : ℕ) (a b c d a' b' c' d' : List Float) : Type 0 where

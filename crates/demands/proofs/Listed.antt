@@ -21,7 +21,7 @@ use Rattle.demands.proofs.Places.{at-short, stands-left, stands-right, 
 
 -- ---- what a verdict lists
 
-verdict-only : (v : Verdict) (i : ℕ) (r : Record) → StandsAt (listed v) i r → v ≡ Listed r
+pub verdict-only : (v : Verdict) (i : ℕ) (r : Record) → StandsAt (listed v) i r → v ≡ Listed r
 unfolding listed StandsAt
 verdict-only (Listed s) zero r h = ap Listed h
 verdict-only (Listed s) (suc i) r h = absurd h
@@ -58,18 +58,18 @@ module _ (m : Maps) where
   abbrev highs : ℕ → ℕ → List Record
   highs row col = listed (judgeOf m row col true)
 
-  record OfPixel (row col : ℕ) (r : Record) : Type 0 where
-    isMax : Bool
-    verdict : judgeOf m row col isMax ≡ Listed r
+  pub record OfPixel (row col : ℕ) (r : Record) : Type 0 where
+    pub isMax : Bool
+    pub verdict : judgeOf m row col isMax ≡ Listed r
 
-  pixel-only : (row col : ℕ) (r : Record) → Stands (pixelDue m row col) r → OfPixel row col r
+  pub pixel-only : (row col : ℕ) (r : Record) → Stands (pixelDue m row col) r → OfPixel row col r
   unfolding pixelDue
   pixel-only row col r h =
       ⊎-elim (λ k. record { isMax = false; verdict = verdict-only (judgeOf m row col false) (k .place) r (k .there) })
       (λ k. record { isMax = true; verdict = verdict-only (judgeOf m row col true) (k .place) r (k .there) })
       (stands-cases (lows row col) (highs row col) r h)
 
-  pixel-all : (row col : ℕ) (isMax : Bool) (r : Record) → judgeOf m row col isMax ≡ Listed r → Stands (pixelDue m row col) r
+  pub pixel-all : (row col : ℕ) (isMax : Bool) (r : Record) → judgeOf m row col isMax ≡ Listed r → Stands (pixelDue m row col) r
   unfolding pixelDue
   pixel-all row col false r h = stands-left (lows row col) (highs row col) r (record { place = 0; there = verdict-all _ r h })
   pixel-all row col true r h = stands-right (lows row col) (highs row col) r (record { place = 0; there = verdict-all _ r h })
@@ -83,7 +83,7 @@ module _ (m : Maps) where
       let is-max = verdict-only (judgeOf m row col true) (b .place) t (b .there) in
       inr (judged-key m row col false r is-min ∙ sym (judged-key m row col true t is-max), judged-polarity m row col false r is-min, judged-polarity m row col true t is-max))
 
-  pixel-key : (row col : ℕ) (r : Record) → OfPixel row col r → r .key ≡ row * m .frame .cols + col
+  pub pixel-key : (row col : ℕ) (r : Record) → OfPixel row col r → r .key ≡ row * m .frame .cols + col
   pixel-key row col r p = judged-key m row col (p .isMax) r (p .verdict)
 
   -- ---- the first n judged pixels of a row

@@ -31,7 +31,7 @@ cond-append : (t : Bool) (r : Record) (xs ys : List Record) → cond t (r ∷ xs
 cond-append true r xs ys = refl
 cond-append false r xs ys = refl
 
-keep-append : (test : Record → Bool) (xs ys : List Record) → keep test (xs ++ ys) ≡ keep test xs ++ keep test ys
+pub keep-append : (test : Record → Bool) (xs ys : List Record) → keep test (xs ++ ys) ≡ keep test xs ++ keep test ys
 unfolding keep
 keep-append test [] ys = refl
 keep-append test (r ∷ xs) ys = rw (keep-append test xs ys) (sym (cond-append (test r) r (keep test xs) (keep test ys)))
@@ -103,7 +103,7 @@ module _ (lost : ℕ → ℕ → Bool) (f : Frame) (s : Set) (th : Thresholds) (
     by-clear true e = let none = clear-is lost row col .0 e in rw (judged-alike none false, judged-alike none true)
     by-clear false e = rw (judged-none e false, judged-none e true)
 
-    pixel-two : pixelDue B row col ≡ keep (spared lost (f .cols)) (pixelDue A row col)
+    pub pixel-two : pixelDue B row col ≡ keep (spared lost (f .cols)) (pixelDue A row col)
     unfolding pixelDue
     pixel-two = rw (keep-append, keep-judged false, keep-judged true) (by-clear (clear lost row col) refl)
 

@@ -16,8 +16,8 @@ use Rattle.samples.proofs.LevelLaws.{length-nine, nine-place}
 use Rattle.rivals.specs.Off.{Thin}
 use Rattle.rivals.specs.Ready.{ReadyAt, placeOf, Around}
 use Rattle.rivals.proofs.OffRules.{off-rules}
-use Rattle.sweep.specs.Marks.{markAt, Put}
-use Rattle.sweep.specs.Column.{Rings, Filled}
+use Rattle.marks.specs.Marks.{markAt, Put}
+use Rattle.slots.specs.Column.{Rings, Filled}
 use Rattle.sweep.specs.Ruled.{verdictAt, Ruled, heightOf, Block, Lines, slotOf, Before, Passed}
 
 -- ---- the marks of a column

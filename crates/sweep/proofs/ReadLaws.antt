@@ -13,8 +13,8 @@ use Rattle.pixel.specs.declared.Frame.{Frame}
 use Rattle.samples.specs.Level.{Maps, stencilOf, sampleAt, samplesOf, samplesAt, Sized}
 use Rattle.samples.proofs.LevelLaws.{sample-reads}
 use Rattle.columns.specs.Sample.{stencilAt, Reach}
-use Rattle.sweep.specs.Column.{readAt, Filled}
-use Rattle.sweep.proofs.ColumnLaws.{filled-alike}
+use Rattle.slots.specs.Column.{readAt, Filled}
+use Rattle.slots.proofs.ColumnLaws.{filled-alike}
 
 -- a column that is not the first begins no sooner than the second
 pub a-column : (rows col : ℕ) → 1 ≤ col → rows ≤ col * rows

@@ -1,4 +1,2 @@
 -- The pass that rules pixels out. Nothing here stands in a promise of an entry.
-pub mod Marks
-pub mod Column
 pub mod Ruled

@@ -13,8 +13,8 @@ use Rattle.pixel.specs.declared.Verdict.the-variants.{Nothing}
 use Rattle.samples.specs.Level.{Maps, samplesAt, nineAt}
 use Rattle.rivals.specs.Off.{Off}
 use Rattle.rivals.specs.Ready.{Slot}
-use Rattle.sweep.specs.Marks.{markAt}
-use Rattle.sweep.specs.Column.{Rings}
+use Rattle.marks.specs.Marks.{markAt}
+use Rattle.slots.specs.Column.{Rings}
 
 -- the verdict on a pixel of the map
 abbrev pub verdictAt : Maps → ℕ → ℕ → Bool → Verdict

@@ -1,6 +1,4 @@
 // The pass that rules pixels out: over a block of rows it goes column by column and leaves a mark for each pixel. A mark of 0 means that the pixel lists
 // nothing; nothing else is claimed of it.
-pub mod bits;
 pub mod block;
-mod column;
 mod pass;

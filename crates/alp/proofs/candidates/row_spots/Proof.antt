@@ -4,7 +4,7 @@ use native.Mathlib.Omega.{arith}
 use mathlib.Core.Path.{_≡_, sym, _∙_}
 use Prim.Native.Nat.{_+_, _%_, _≤_, _-_}
 use Rattle.samples.specs.Level.{mapsOf}
-use Rattle.sweep.proofs.MarksLaws.{mark-none}
+use Rattle.marks.proofs.MarksLaws.{mark-none}
 use Rattle.sweep.proofs.PassLaws.{unmarked-nothing}
 use Rattle.record.specs.Layout.{Laid}
 use Rattle.alp.specs.Due.{rowDue}

@@ -1,0 +1,89 @@
+-- What a column's checks say, and what the code leaves of a column that it takes. Assumes nothing.
+use Prim.Native.Nat.{ℕ, _+_, _*_, _≤_, _<_}
+use native.Mathlib.Nat.{zero-add}
+use native.Mathlib.Omega.{arith}
+use mathlib.Core.Path.{_≡_, refl}
+use mathlib.Core.Bool.{Bool, true, false, not, _||_}
+use mathlib.Core.List.{List}
+use lib.Dec.{ltb, leb, eqb}
+use lib.ListN.{length}
+use lib.Ieee.{Float}
+use borrow.Author.Tests.{ltb-false, leb-false, eqb-true, not-false}
+use Rattle.float.proofs.Bools.{neither}
+use Rattle.tables.specs.declared.Checked.the-variants.{Fine}
+use Rattle.tables.specs.Refusal.{firstOf}
+use Rattle.tables.proofs.RefusalLaws.{unless-fine}
+use Rattle.checks.specs.Checks.{levelsCheck}
+use Rattle.record.specs.declared.Record.{Record}
+use Rattle.record.specs.Layout.{spotWidth, Laid}
+use Rattle.record.proofs.LayoutLaws.{lay-laid}
+use Rattle.feed.specs.declared.State.{State}
+use Rattle.feed.specs.declared.Answer.the-variants.{Taken}
+use Rattle.feed.specs.Ring.{Four, fourOf, judgedSpots, kept}
+use Rattle.feed.specs.Lent.{Roomy, Long}
+use Rattle.feed.specs.Feed.{after, past, ringCheck, cramped, columnChecks, next, took}
+
+-- what a test that failed says
+pub not-past : (s : State) → past s ≡ false → (s .rows ≤ 4096) × (s .cols ≤ 4096) × (s .position < s .cols)
+unfolding past
+not-past s h =
+    let a = neither (ltb 4096 (s .rows)) _ h in
+    let b = neither (ltb 4096 (s .cols)) _ (a .1) in
+    (ltb-false _ _ (a .0), ltb-false _ _ (b .0), leb-false _ _ (b .1))
+
+pub not-wrong : (rows : ℕ) (g : Four) → levelsCheck (length (g .l0)) (length (g .l1)) (length (g .l2)) (length (g .l3)) rows .holds ≡ false → Long rows g
+not-wrong rows g h =
+    let a = neither (not (eqb (length (g .l0)) rows)) _ h in
+    let b = neither (not (eqb (length (g .l1)) rows)) _ (a .1) in
+    let c = neither (not (eqb (length (g .l2)) rows)) _ (b .1) in
+    record {
+      l0 = eqb-true _ _ (not-false (eqb (length (g .l0)) rows) (a .0));
+      l1 = eqb-true _ _ (not-false (eqb (length (g .l1)) rows) (b .0));
+      l2 = eqb-true _ _ (not-false (eqb (length (g .l2)) rows) (c .0));
+      l3 = eqb-true _ _ (not-false (eqb (length (g .l3)) rows) (c .1));
+    }
+
+pub not-short : (rows : ℕ) (g : Four) → ringCheck rows (length (g .l0)) (length (g .l1)) (length (g .l2)) (length (g .l3)) .holds ≡ false → Roomy rows g
+not-short rows g h =
+    let a = neither (ltb (length (g .l0)) (5 * rows)) _ h in
+    let b = neither (ltb (length (g .l1)) (5 * rows)) _ (a .1) in
+    let c = neither (ltb (length (g .l2)) (5 * rows)) _ (b .1) in
+    record { l0 = ltb-false _ _ (a .0); l1 = ltb-false _ _ (b .0); l2 = ltb-false _ _ (c .0); l3 = ltb-false _ _ (c .1) }
+
+not-cramped : (rs : List Record) (out : List ℕ) → cramped rs out ≡ false → length rs * spotWidth ≤ length out
+unfolding cramped
+not-cramped rs out h = ltb-false _ _ h
+
+-- a column that none of its checks refuses
+pub record Passed (s : State) (given ring : Four) (out : List ℕ) : Type 0 where
+  pub rows-most : s .rows ≤ 4096
+  pub cols-most : s .cols ≤ 4096
+  pub to-come : s .position < s .cols
+  pub long : Long (s .rows) given
+  pub roomy : Roomy (s .rows) ring
+  pub fit : length (judgedSpots s ring given) * spotWidth ≤ length out
+
+pub passed : (s : State) (given ring : Four) (out : List ℕ) → firstOf (columnChecks s given ring out) ≡ Fine → Passed s given ring out
+unfolding columnChecks firstOf
+passed s given ring out h =
+    let a = unless-fine (past s) _ _ h in
+    let b = unless-fine (levelsCheck (length (given .l0)) (length (given .l1)) (length (given .l2)) (length (given .l3)) (s .rows) .holds) _ _ (a .1) in
+    let c = unless-fine (ringCheck (s .rows) (length (ring .l0)) (length (ring .l1)) (length (ring .l2)) (length (ring .l3)) .holds) _ _ (b .1) in
+    let d = unless-fine (cramped (judgedSpots s ring given) out) _ _ (c .1) in
+    let n = not-past s (a .0) in
+    record {
+      rows-most = n .0;
+      cols-most = n .1;
+      to-come = n .2;
+      long = not-wrong (s .rows) given (b .0);
+      roomy = not-short (s .rows) ring (c .0);
+      fit = not-cramped (judgedSpots s ring given) out (d .0);
+    }
+
+-- what the code leaves of a column that it takes
+pub took-is : (s : State) (given ring : Four) (out : List ℕ) {n : ℕ} {st : State} {a b c d : List Float} {o : List ℕ} →
+    Laid out o 0 n (judgedSpots s ring given)
+    → a ≡ kept (s .rows) (s .position) (ring .l0) (given .l0) → b ≡ kept (s .rows) (s .position) (ring .l1) (given .l1)
+    → c ≡ kept (s .rows) (s .position) (ring .l2) (given .l2) → d ≡ kept (s .rows) (s .position) (ring .l3) (given .l3) → st ≡ next s
+    → after (record { answer = Taken n; state = st }) (fourOf a b c d) o ≡ took (judgedSpots s ring given) s given ring out
+took-is s given ring out laid a-is b-is c-is d-is st-is = rw (laid .count, zero-add, st-is, a-is, b-is, c-is, d-is, laid .bytes, lay-laid)

@@ -1,0 +1,4 @@
+-- Laws of the feed's ring and checks.
+pub mod RingLaws
+pub mod SpotsLaws
+pub mod FeedLaws

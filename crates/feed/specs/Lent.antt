@@ -1,0 +1,25 @@
+-- What the feed's inner functions ask of their callers. Nothing here stands in a promise of an entry. Definitions only.
+use Prim.Native.Nat.{ℕ, _+_, _*_, _≤_, _<_}
+use mathlib.Core.Path.{_≡_}
+use lib.ListN.{length}
+use Rattle.feed.specs.Ring.{Four}
+
+-- each slice of the ring has room for five columns
+pub record Roomy (rows : ℕ) (ring : Four) : Type 0 where
+  pub l0 : 5 * rows ≤ length (ring .l0)
+  pub l1 : 5 * rows ≤ length (ring .l1)
+  pub l2 : 5 * rows ≤ length (ring .l2)
+  pub l3 : 5 * rows ≤ length (ring .l3)
+
+-- four columns are rows long
+pub record Long (rows : ℕ) (given : Four) : Type 0 where
+  pub l0 : length (given .l0) ≡ rows
+  pub l1 : length (given .l1) ≡ rows
+  pub l2 : length (given .l2) ≡ rows
+  pub l3 : length (given .l3) ≡ rows
+
+-- the ring and the columns given are lent as they should be
+pub record Lent (rows : ℕ) (ring given : Four) : Type 0 where
+  pub rows-most : rows ≤ 4096
+  pub roomy : Roomy rows ring
+  pub long : Long rows given

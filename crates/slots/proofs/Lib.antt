@@ -1,0 +1,2 @@
+-- Laws of the lines of a column.
+pub mod ColumnLaws
