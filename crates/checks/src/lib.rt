@@ -8,21 +8,21 @@ use tables::Set;
 use tables::Thresholds;
 
 // Whether a side is too long.
-fn sides_off(rows: usize, cols: usize) -> bool
+pub fn sides_off(rows: usize, cols: usize) -> bool
     ensures { λ r. ⌜ r ≡ sidesCheck rows cols .holds ⌝ }
 {
     (4096 < rows) | (4096 < cols)
 }
 
 // Whether one of four levels of n0 to n3 floats is not n long.
-fn levels_off(n0: usize, n1: usize, n2: usize, n3: usize, n: usize) -> bool
+pub fn levels_off(n0: usize, n1: usize, n2: usize, n3: usize, n: usize) -> bool
     ensures { λ r. ⌜ r ≡ levelsCheck n0 n1 n2 n3 n .holds ⌝ }
 {
     (n0 != n) | ((n1 != n) | ((n2 != n) | (n3 != n)))
 }
 
 // Whether the octave is too high.
-fn octave_off(octave: usize) -> bool
+pub fn octave_off(octave: usize) -> bool
     ensures { λ r. ⌜ r ≡ octaveCheck octave .holds ⌝ }
 {
     5 < octave

@@ -4,7 +4,7 @@ ghost use mathlib.Core.Path.{_≡_};
 ghost use lib.ListN.{length};
 ghost use Rattle.columns.specs.Sample.{stencilAt, Reach, Samples};
 
-fn stencil(l: &[f32], left: usize, mid: usize, right: usize, square: f32) -> f32
+pub fn stencil(l: &[f32], left: usize, mid: usize, right: usize, square: f32) -> f32
     requires { ⌜ (1 ≤ mid) × (mid + 1 < length (now l)) ⌝ }
     requires { ⌜ (left < length (now l)) × (right < length (now l)) ⌝ }
     ensures { λ r. ⌜ r ≡ stencilAt (now (l .entry)) left mid right square ⌝ }

@@ -17,7 +17,8 @@ use Rattle.tables.proofs.RefusalLaws.{first-refused, refused-first}
 use Rattle.feed.specs.declared.State.{State}
 use Rattle.feed.specs.declared.Started.{Started}
 use Rattle.feed.specs.declared.Answer.the-variants.{Taken, Refused}
-use Rattle.feed.specs.Ring.{Four, judgedSpots}
+use Rattle.samples.specs.Four.{Four}
+use Rattle.feed.specs.Ring.{judgedSpots}
 use Rattle.feed.specs.Feed.{startChecks, startedBy, startOf, past, columnChecks, fedBy, columnOf}
 use Rattle.feed.proofs.SpotsLaws.{judged-short}
 

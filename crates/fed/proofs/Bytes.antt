@@ -19,7 +19,7 @@ use Rattle.demands.specs.TwoMaps.{spared, keep, Lossy}
 use Rattle.demands.proofs.TwoMaps.{two-maps}
 use Rattle.demands.proofs.Held.{list-held}
 use Rattle.demands.proofs.Listed.{list-is}
-use Rattle.feed.specs.Ring.{Four}
+use Rattle.samples.specs.Four.{Four}
 use Rattle.feed.specs.Feed.{opened}
 use Rattle.fed.specs.Held.{mapOf}
 use Rattle.fed.specs.Run.{Call, stateAfter, bytesAfter, levelsAfter, with}

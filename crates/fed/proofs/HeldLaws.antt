@@ -17,7 +17,8 @@ use Rattle.samples.proofs.LevelLaws.{length-nine, nine-place, nine-built}
 use Rattle.alp.specs.Due.{pixelDue}
 use Rattle.alp.proofs.DueLaws.{pixel-both}
 use Rattle.feed.specs.declared.State.{State}
-use Rattle.feed.specs.Ring.{Four, frameOf, slotOf, pixelFed, sampleFed, samplesFed, nineFed, pixelSpots, columnSpots, kept, stored}
+use Rattle.samples.specs.Four.{Four}
+use Rattle.feed.specs.Ring.{frameOf, slotOf, pixelFed, sampleFed, samplesFed, nineFed, pixelSpots, columnSpots, kept, stored}
 use Rattle.feed.specs.Lent.{Roomy}
 use Rattle.feed.proofs.RingLaws.{slot-room}
 use Rattle.fed.specs.Held.{mapOf, Holds, Column, Held, Given}

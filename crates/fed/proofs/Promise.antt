@@ -29,7 +29,7 @@ use Rattle.demands.proofs.Judge.{judged-admits}
 use Rattle.demands.proofs.TwoMaps.{two-maps}
 use Rattle.feed.specs.declared.State.{State}
 use Rattle.feed.specs.declared.Started.{Started}
-use Rattle.feed.specs.Ring.{Four, fourOf}
+use Rattle.samples.specs.Four.{Four, fourOf}
 use Rattle.feed.specs.Feed.{After, after, ringCheck, startChecks, startedBy, startOf, opened, columnOf}
 use Rattle.feed.specs.declared.Fed.{Fed}
 use Rattle.fed.specs.Held.{mapOf, Held}

@@ -14,7 +14,8 @@ use Rattle.grid.specs.Grid.{pixelAt}
 use Rattle.feed.specs.declared.State.{State}
 use Rattle.feed.specs.declared.Answer.{Answer}
 use Rattle.feed.specs.declared.Answer.the-variants.{Taken, Refused}
-use Rattle.feed.specs.Ring.{Four, judgedSpots, stored}
+use Rattle.samples.specs.Four.{Four}
+use Rattle.feed.specs.Ring.{judgedSpots, stored}
 use Rattle.feed.specs.Lent.{Long}
 use Rattle.feed.specs.Feed.{After, columnOf, refused, took, next}
 use Rattle.fed.specs.Held.{mapOf, Column, Held, Given}

@@ -7,7 +7,8 @@ use lib.Ieee.{Float, nan}
 use Rattle.grid.specs.Grid.{pixelAt}
 use Rattle.samples.specs.Level.{Maps, mapsOf}
 use Rattle.feed.specs.declared.State.{State}
-use Rattle.feed.specs.Ring.{Four, frameOf, slotOf}
+use Rattle.samples.specs.Four.{Four}
+use Rattle.feed.specs.Ring.{frameOf, slotOf}
 
 -- the map of a feed whose columns make up these levels
 abbrev pub mapOf : State → Four → Maps

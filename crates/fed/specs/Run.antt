@@ -7,7 +7,7 @@ use Rattle.record.specs.Layout.{spotWidth}
 use Rattle.feed.specs.declared.State.{State}
 use Rattle.feed.specs.declared.Answer.{Answer}
 use Rattle.feed.specs.declared.Answer.the-variants.{Taken, Refused}
-use Rattle.feed.specs.Ring.{Four, fourOf}
+use Rattle.samples.specs.Four.{Four, fourOf}
 use Rattle.feed.specs.Feed.{After, columnOf}
 
 -- a call's columns, and the output that it is lent

@@ -1,17 +1,20 @@
 -- What a column's checks say, and what the code leaves of a column that it takes. Assumes nothing.
-use Prim.Native.Nat.{ℕ, _+_, _*_, _≤_, _<_}
+use Prim.Native.Nat.{ℕ, _+_, _-_, _*_, _≤_, _<_}
 use native.Mathlib.Nat.{zero-add}
 use native.Mathlib.Omega.{arith}
-use mathlib.Core.Path.{_≡_, refl}
+use mathlib.Core.Path.{_≡_, sym}
 use mathlib.Core.Bool.{Bool, true, false, not, _||_}
 use mathlib.Core.List.{List}
 use lib.Dec.{ltb, leb, eqb}
 use lib.ListN.{length}
 use lib.Ieee.{Float}
-use borrow.Author.Tests.{ltb-false, leb-false, eqb-true, not-false}
+use borrow.Author.Tests.{lt-ltb, le-ltb, ltb-false, leb-true, leb-false, eqb-true, not-false}
 use Rattle.float.proofs.Bools.{neither}
 use Rattle.tables.specs.declared.Checked.the-variants.{Fine}
-use Rattle.tables.specs.Refusal.{firstOf}
+use Rattle.tables.specs.declared.Set.{Set}
+use Rattle.tables.specs.declared.Thresholds.{Thresholds}
+use Rattle.tables.specs.declared.Refusal.the-variants.{Room}
+use Rattle.tables.specs.Refusal.{unless, firstOf, sidesCheck, octaveCheck}
 use Rattle.tables.proofs.RefusalLaws.{unless-fine}
 use Rattle.checks.specs.Checks.{levelsCheck}
 use Rattle.record.specs.declared.Record.{Record}
@@ -19,9 +22,11 @@ use Rattle.record.specs.Layout.{spotWidth, Laid}
 use Rattle.record.proofs.LayoutLaws.{lay-laid}
 use Rattle.feed.specs.declared.State.{State}
 use Rattle.feed.specs.declared.Answer.the-variants.{Taken}
-use Rattle.feed.specs.Ring.{Four, fourOf, judgedSpots, kept}
-use Rattle.feed.specs.Lent.{Roomy, Long}
-use Rattle.feed.specs.Feed.{after, past, ringCheck, cramped, columnChecks, next, took}
+use Rattle.samples.specs.Four.{Four, fourOf}
+use Rattle.feed.specs.Ring.{columnSpots, judgedSpots, kept}
+use Rattle.feed.specs.Lent.{Roomy, Long, heightOf}
+use Rattle.feed.specs.Feed.{after, past, ringCheck, startChecks, cramped, columnChecks, refused, next, fedBy, outputOf}
+use Rattle.feed.proofs.SpotsLaws.{judged-height}
 
 -- what a test that failed says
 pub not-past : (s : State) → past s ≡ false → (s .rows ≤ 4096) × (s .cols ≤ 4096) × (s .position < s .cols)
@@ -80,10 +85,32 @@ passed s given ring out h =
       fit = not-cramped (judgedSpots s ring given) out (d .0);
     }
 
--- what the code leaves of a column that it takes
-pub took-is : (s : State) (given ring : Four) (out : List ℕ) {n : ℕ} {st : State} {a b c d : List Float} {o : List ℕ} →
-    Laid out o 0 n (judgedSpots s ring given)
-    → a ≡ kept (s .rows) (s .position) (ring .l0) (given .l0) → b ≡ kept (s .rows) (s .position) (ring .l1) (given .l1)
-    → c ≡ kept (s .rows) (s .position) (ring .l2) (given .l2) → d ≡ kept (s .rows) (s .position) (ring .l3) (given .l3) → st ≡ next s
-    → after (record { answer = Taken n; state = st }) (fourOf a b c d) o ≡ took (judgedSpots s ring given) s given ring out
-took-is s given ring out laid a-is b-is c-is d-is st-is = rw (laid .count, zero-add, st-is, a-is, b-is, c-is, d-is, laid .bytes, lay-laid)
+-- ---- what the code leaves when but the last check has passed
+
+module _ (s : State) (given ring : Four) (out : List ℕ) (n : ℕ) (high : n ≡ heightOf s) where
+  listed-is : columnSpots s ring given (s .position - 2) n ≡ judgedSpots s ring given
+  listed-is = rw high (sym (judged-height s ring given))
+
+  -- of a column whose records do not fit
+  pub output-refused : leb (length (columnSpots s ring given (s .position - 2) n) * spotWidth) (length out) ≡ false → refused Room s ring out ≡ outputOf s given ring out
+  unfolding firstOf unless fedBy cramped
+  output-refused h = rw (lt-ltb (length out) (length (judgedSpots s ring given) * spotWidth) (leb-false _ _ (rw listed-is at h)))
+
+  -- of one that it takes
+  pub output-took : leb (length (columnSpots s ring given (s .position - 2) n) * spotWidth) (length out) ≡ true → {m : ℕ} {st : State} {a b c d : List Float} {o : List ℕ} →
+      Laid out o 0 m (columnSpots s ring given (s .position - 2) n)
+      → a ≡ kept (s .rows) (s .position) (ring .l0) (given .l0) → b ≡ kept (s .rows) (s .position) (ring .l1) (given .l1)
+      → c ≡ kept (s .rows) (s .position) (ring .l2) (given .l2) → d ≡ kept (s .rows) (s .position) (ring .l3) (given .l3) → st ≡ next s
+      → after (record { answer = Taken m; state = st }) (fourOf a b c d) o ≡ outputOf s given ring out
+  unfolding firstOf unless fedBy cramped
+  output-took fits laid a-is b-is c-is d-is st-is =
+      rw (le-ltb (length out) (length (judgedSpots s ring given) * spotWidth) (leb-true _ _ (rw listed-is at fits)), laid .count, zero-add, st-is, a-is, b-is, c-is, d-is, laid .bytes, listed-is, lay-laid)
+
+-- ---- start
+
+-- an octave that passed start's checks is small
+pub octave-most : (set : Set) (th : Thresholds) (rows cols octave n0 n1 n2 n3 : ℕ) → firstOf (startChecks set th rows cols octave n0 n1 n2 n3) ≡ Fine → octave ≤ 5
+unfolding startChecks firstOf
+octave-most set th rows cols octave n0 n1 n2 n3 h =
+    let a = unless-fine (sidesCheck rows cols .holds) _ _ h in
+    ltb-false 5 octave (unless-fine (octaveCheck octave .holds) _ _ (a .1) .0)

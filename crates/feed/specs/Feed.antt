@@ -19,7 +19,8 @@ use Rattle.feed.specs.declared.Started.{Started}
 use Rattle.feed.specs.declared.Answer.{Answer}
 use Rattle.feed.specs.declared.Answer.the-variants.{Taken, Refused}
 use Rattle.feed.specs.declared.Fed.{Fed}
-use Rattle.feed.specs.Ring.{Four, judgedSpots, stored}
+use Rattle.samples.specs.Four.{Four}
+use Rattle.feed.specs.Ring.{judgedSpots, stored}
 
 -- ---- start
 
@@ -93,3 +94,7 @@ fedBy Fine s given ring out = took (judgedSpots s ring given) s given ring out
 -- the whole of a column
 unfoldable pub columnOf : State → Four → Four → List ℕ → After
 columnOf s given ring out = fedBy (firstOf (columnChecks s given ring out)) s given ring out
+
+-- what is left of it when but the last check has passed: only inner functions cite this
+abbrev pub outputOf : State → Four → Four → List ℕ → After
+outputOf s given ring out = fedBy (firstOf ((Room when cramped (judgedSpots s ring given) out) ∷ [])) s given ring out

@@ -10,18 +10,8 @@ use Rattle.record.specs.declared.Record.{Record}
 use Rattle.pixel.specs.declared.Frame.{Frame}
 use Rattle.pixel.specs.Listed.{bothListed}
 use Rattle.samples.specs.Level.{stencilOf, nineOf}
+use Rattle.samples.specs.Four.{Four}
 use Rattle.feed.specs.declared.State.{State}
-
--- a list of floats for each of the four levels: the columns given, or the slices of the ring
-pub record Four : Type 0 where
-  pub l0 : List Float
-  pub l1 : List Float
-  pub l2 : List Float
-  pub l3 : List Float
-
--- these, given one by one
-abbrev pub fourOf : List Float → List Float → List Float → List Float → Four
-fourOf a b c d = record { l0 = a; l1 = b; l2 = c; l3 = d }
 
 -- the frame of a state's map
 abbrev pub frameOf : State → Frame

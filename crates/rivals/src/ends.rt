@@ -31,7 +31,7 @@ fn is_ending(k: [f32; 4], sign: f32, val: f32, band: Band) -> bool
 }
 
 // One of the cubics at m and m + 2 does.
-fn is_either(
+pub fn is_either(
     a: &[f32; 780],
     b: &[f32; 780],
     c: &[f32; 780],
@@ -50,7 +50,7 @@ fn is_either(
 }
 
 // One of the three from m on does.
-fn is_three(
+pub fn is_three(
     a: &[f32; 780],
     b: &[f32; 780],
     c: &[f32; 780],
@@ -94,7 +94,7 @@ fn is_ended(
 }
 
 // The cubics at the nine places around place h + 1 of the slot y, by rows.
-fn nine_cubics(
+pub fn nine_cubics(
     x: usize,
     y: usize,
     z: usize,
@@ -122,7 +122,7 @@ fn nine_cubics(
 }
 
 // The refinement accepts a spot with this sigma and polarity.
-fn accepts(set: Set, ratio: f32, k: &[[f32; 4]; 9], sigma: f32, is_max: bool) -> bool
+pub fn accepts(set: Set, ratio: f32, k: &[[f32; 4]; 9], sigma: f32, is_max: bool) -> bool
     ensures { λ r. ⌜ r ≡ acceptedOf (refineOf set ratio (now (k .entry)) (spotOf sigma «is_max»)) ⌝ }
 {
     let spot = Spot {
@@ -172,7 +172,7 @@ fn survives(
     accepts(set, ratio, &nine, sigma, is_max)
 }
 
-fn raised(old: u8, test: bool) -> u8
+pub fn raised(old: u8, test: bool) -> u8
     ensures { λ r. ⌜ r ≡ cond test 1 old ⌝ }
 {
     if test { 1 } else { old }

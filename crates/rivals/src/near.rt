@@ -16,7 +16,7 @@ fn is_reaching(p: f32, v: f32, val: f32, band: Band) -> bool
 }
 
 // One of the points at m and m + 2 does.
-fn is_either(p: &[f32; 1560], v: &[f32; 1560], m: usize, val: f32, band: Band) -> bool
+pub fn is_either(p: &[f32; 1560], v: &[f32; 1560], m: usize, val: f32, band: Band) -> bool
     requires { ⌜ m + 2 < 1560 ⌝ }
     ensures { λ r. ⌜ r ≡ (reaches band val (now (p .entry) at m) (now (v .entry) at m) || reaches band val (now (p .entry) at (m + 2)) (now (v .entry) at (m + 2))) ⌝ }
 {
@@ -55,7 +55,7 @@ fn is_reached(
         | is_three(p, v, z + e, val, band)
 }
 
-fn one_if_not(test: bool) -> usize
+pub fn one_if_not(test: bool) -> usize
     ensures { λ r. ⌜ (r ≡ cond test 0 1) × (r ≤ 1) ⌝ }
 {
     if test { 0 } else { 1 }

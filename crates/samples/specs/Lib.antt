@@ -1,2 +1,3 @@
 -- Levels and their samples. The public promises cite these.
 pub mod Level
+pub mod Four

@@ -28,7 +28,7 @@ fn window_of(th: Thresholds) -> Window
 }
 
 // From the samples on: cubics, roots, points and words.
-fn points<'a>(
+pub fn points<'a>(
     set: Set,
     th: Thresholds,
     n: usize,

@@ -1,0 +1,48 @@
+-- The cubics at places beside candidates, gathered into a slot. Nothing here stands in a promise of an entry. Definitions only.
+use Prim.Native.Nat.{ℕ, _+_, _%_, _≤_, _<_}
+use mathlib.Core.Path.{_≡_}
+use mathlib.Core.Logic.{_⊎_}
+use mathlib.Core.List.{List}
+use lib.ListN.{length, getD}
+use lib.Ieee.{Float}
+use Rattle.fit.specs.Cubic.{coeffsOf}
+use Rattle.samples.specs.Four.{Four, samplesBy}
+use Rattle.columns.specs.Stat.{cubicIn}
+
+-- c places from the offsets on, in a list of n and, the column after them, in one of m
+pub record Span (n m left mid right c : ℕ) : Type 0 where
+  pub up : 1 ≤ mid
+  pub down : mid + c < n
+  pub before : left + c ≤ n
+  pub behind : right + c ≤ m
+  pub small : left + mid + right ≤ 50331648
+
+-- that of each of four levels
+pub record Spans (l r : Four) (left mid right c : ℕ) : Type 0 where
+  pub l0 : Span (length (l .l0)) (length (r .l0)) left mid right c
+  pub l1 : Span (length (l .l1)) (length (r .l1)) left mid right c
+  pub l2 : Span (length (l .l2)) (length (r .l2)) left mid right c
+  pub l3 : Span (length (l .l3)) (length (r .l3)) left mid right c
+
+-- four lists of 780
+pub record Long (a b c d : List Float) : Type 0 where
+  pub first : length a ≡ 780
+  pub second : length b ≡ 780
+  pub third : length c ≡ 780
+  pub fourth : length d ≡ 780
+
+-- the cubic that the table t makes of the samples at the i-th place from the offsets on
+abbrev pub cubicBy : List Float → Four → Four → ℕ → ℕ → ℕ → List Float → ℕ → List Float
+cubicBy t l r left mid right g i = coeffsOf t (samplesBy l r (left + i) (mid + i) (right + i) g)
+
+-- the cubics of the four places from the h-th on lie from place z + h on; all others are as they were
+pub record Put (t : List Float) (l r : Four) (left mid right : ℕ) (g : List Float) (z h : ℕ) (a b c d a' b' c' d' : List Float) : Type 0 where
+  pub here : (q : ℕ) → q < 4 → cubicIn a' b' c' d' (z + h + q) ≡ cubicBy t l r left mid right g (h + q)
+  pub same : (i : ℕ) → (i < z + h) ⊎ (z + h + 4 ≤ i) → cubicIn a' b' c' d' i ≡ cubicIn a b c d i
+  pub long : Long a' b' c' d'
+
+-- for each of the first k codes whose pixel is one of the first n: the cubics of the three places from its own on lie in the slot at z; what lies outside of the slot is as it was
+pub record Gathered (t : List Float) (l r : Four) (left mid right : ℕ) (g : List Float) (z n k : ℕ) (codes : List ℕ) (a b c d a' b' c' d' : List Float) : Type 0 where
+  pub here : (j : ℕ) → j < k → getD codes j 0 % 780 < n → (q : ℕ) → q < 3 → cubicIn a' b' c' d' (z + getD codes j 0 % 780 + q) ≡ cubicBy t l r left mid right g (getD codes j 0 % 780 + q)
+  pub same : (i : ℕ) → (i < z) ⊎ (z + 257 ≤ i) → cubicIn a' b' c' d' i ≡ cubicIn a b c d i
+  pub long : Long a' b' c' d'

@@ -1,0 +1,2 @@
+-- Cubics gathered beside candidates. Nothing here stands in a promise of an entry.
+pub mod Gather
