@@ -1,4 +1,4 @@
-/* Uramsheg's detector: makes the four blurred levels of a raw gas map, lists the spots of four levels, and gives each its size. Proved in Rattle; see
+/* Uramsheg's detector: makes the four blurred levels of a raw gas map, lists the spots of four levels, whole or column by column, and gives each its size. Proved in Rattle; see
  * docs/PROMISES.md.
  *
  * Link with libalp_c.a (`tests/staticlib alp_c` writes target/staticlib/libalp_c.a); it needs nothing else.
@@ -39,20 +39,21 @@
 extern "C" {
 #endif
 
-enum { URAMSHEG_SET_BYTES = 528, URAMSHEG_SPOT_BYTES = 40, URAMSHEG_SIZED_BYTES = 52 };
+enum { URAMSHEG_SET_BYTES = 528, URAMSHEG_SPOT_BYTES = 40, URAMSHEG_SIZED_BYTES = 52, URAMSHEG_FEED_BYTES = 564, URAMSHEG_RING_COLUMNS = 5 };
 
 /* What a call answers: 0, or why it was refused. Of the call's checks, in its order, the first that holds is answered; each call gives its order below,
  * and the numbers say nothing about it. */
 enum {
     URAMSHEG_DONE = 0,
     URAMSHEG_REFUSED_SIZE = 1,      /* rows or cols above 4096: cut the map into tiles */
-    URAMSHEG_REFUSED_LEVEL = 2,     /* a level, or the raw map, is not rows * cols long */
+    URAMSHEG_REFUSED_LEVEL = 2,     /* a level, or the raw map, is not rows * cols long; a feed's column is not rows long */
     URAMSHEG_REFUSED_OCTAVE = 3,    /* octave above 5 */
     URAMSHEG_REFUSED_SET = 4,       /* the set record is not 528 bytes long or not good */
     URAMSHEG_REFUSED_RECORDS = 5,   /* the list is no whole number of records (*value is how many are whole), or holds a bad one (*value is its index) */
-    URAMSHEG_REFUSED_ROOM = 6,      /* the output, or one of the four, is shorter than needed */
+    URAMSHEG_REFUSED_ROOM = 6,      /* the output, one of four levels or of a ring's slices, or the room for a feed's state is shorter than needed */
     URAMSHEG_REFUSED_NO_SIZE = 7,   /* the spot has no size; *cause says why */
-    URAMSHEG_REFUSED_THRESHOLDS = 8 /* a threshold is not a number: one of the five is a NaN, as a blank in a sheet reads */
+    URAMSHEG_REFUSED_THRESHOLDS = 8, /* a threshold is not a number: one of the five is a NaN, as a blank in a sheet reads */
+    URAMSHEG_REFUSED_PAST = 9        /* all columns of the feed have come: start another */
 };
 
 /* Why a spot has no size: of the two, in this order, the first that holds. It stands in byte 49 of a sized record, and in *cause beside 7. */
@@ -87,6 +88,42 @@ uint32_t uramsheg_detect(const uint8_t *set, size_t set_length,
                          const float *level0, size_t level0_length, const float *level1, size_t level1_length,
                          const float *level2, size_t level2_length, const float *level3, size_t level3_length,
                          uint8_t *out, size_t out_length, uint64_t *value);
+
+/* A feed: the spots of a map whose columns come one after the other, from a scanner say, without the whole map in memory.
+ *
+ * What is lent: a ring of four slices, one for each level, of 5 * rows floats each (a slice may be longer; its later floats are kept), and a state of
+ * URAMSHEG_FEED_BYTES bytes. Start the feed, then give it column 0, 1, .. of each level, with the same ring and the same state each time, until all cols have
+ * come. Column c is judged when c + 2 has come, so that each call answers with the records of the column two before the one that it is given; the first six
+ * calls and the last two list nothing. Over a whole feed the records are those of uramsheg_detect on the same levels, bit for bit: put them in the order of
+ * their keys, at one key the minimum first, and the lists are equal. A feed that stops early has listed exactly the spots of the columns judged so far.
+ * A map, a set or thresholds of another kind take another feed; two feeds take two states and two rings.
+ *
+ * The state (little-endian): 0 the set record; 528 peak threshold, 532 sigma threshold, 536 curvature ratio, 540 window low, 544 window high (f32 each);
+ * 548 rows, 552 cols, 556 position, the number of columns taken (u32 each); 560 octave; 561 562 563 zero. It has no pointer in it, so that it may be copied,
+ * kept and sent; with a copy of the ring it goes on where the copy was made. Bytes that start did not write make some state too, and no call with them reads or
+ * writes out of bounds; what it then lists is nobody's. A state of zeros takes no column: every call is 9. */
+
+/* Begins a feed: writes its state to the start of `state`, whose later bytes are kept. The ring is only measured, and never written.
+ * Answers 0. Refused (checked in the order 1, 3, 8, 4, 6 for the ring or the state's room), it answers the number, and `state` is untouched. */
+uint32_t uramsheg_feed_start(const uint8_t *set, size_t set_length,
+                             float peak_threshold, float sigma_threshold, float curvature_ratio, float window_low, float window_high,
+                             size_t rows, size_t cols, size_t octave,
+                             const float *ring0, size_t ring0_length, const float *ring1, size_t ring1_length,
+                             const float *ring2, size_t ring2_length, const float *ring3, size_t ring3_length,
+                             uint8_t *state, size_t state_length);
+
+/* Gives the next column of each level. Answers 0 and the number of records in *value; `out` then begins with them, by rising row, at one pixel the minimum
+ * before the maximum, and its later bytes are kept. Room for 2 * rows records is always enough.
+ * Refused, it answers the number: 9 once all columns have come (or where `state` is shorter than a state), then 2 where a column is not rows long, then 6 where
+ * a slice of the ring is shorter than 5 * rows or the records don't all fit in `out`. A refusal changes nothing, and *value is 0: the column may be given
+ * again, with more room say, and gives what it would have given at once.
+ * It takes some 60 KB of stack and no heap. The columns, the ring's slices, `state`, `out` and `value` must not overlap. */
+uint32_t uramsheg_feed_column(uint8_t *state, size_t state_length,
+                              const float *column0, size_t column0_length, const float *column1, size_t column1_length,
+                              const float *column2, size_t column2_length, const float *column3, size_t column3_length,
+                              float *ring0, size_t ring0_length, float *ring1, size_t ring1_length,
+                              float *ring2, size_t ring2_length, float *ring3, size_t ring3_length,
+                              uint8_t *out, size_t out_length, uint64_t *value);
 
 /* Sizes the records of a list that was found on a map of rows by cols: a sized record for each, in the list's order, in `out`.
  * A size comes from the four samples, the sigma and the polarity in the spot's own record, and from nothing else; a home pixel from its y and x alone.

@@ -3,6 +3,8 @@ mod candidates; // candidates.rt: the loops over the pixels
 
 ghost use mathlib.Core.Path.{_≡_};
 ghost use Rattle.alp.specs.Detect.{outcome, detectOf};
+pub use feed::feed_column;
+pub use feed::feed_start;
 pub use join::join;
 pub use levels::levels;
 use pixel::Frame;

@@ -1,25 +1,21 @@
 -- What the C face leaves of an outcome, and when a set's record is refused.
 use Prim.Native.Nat.{ℕ, zero, suc, _<_}
 use native.Mathlib.Omega.{arith}
-use mathlib.Core.Bool.{Bool, true, false, not, _&&_}
+use mathlib.Core.Bool.{true, false, not}
 use mathlib.Core.List.{List}
 use mathlib.Core.Path.{_≡_, refl, sym, ap, _∙_}
 use borrow.Author.Tests.{not-true}
-use lib.Dec.{eqb}
 use lib.ListN.{length}
-use lib.Ieee.{Float, lt, ofBits, ofFields, odd}
-use Rattle.float.specs.Small.{finite}
-use Rattle.float.proofs.Bools.{both}
+use lib.Ieee.{Float}
 use Rattle.tables.specs.declared.Set.{Set}
-use Rattle.tables.specs.declared.SetRead.{SetRead}
 use Rattle.tables.specs.declared.Thresholds.{Thresholds}
 use Rattle.tables.specs.declared.Refusal.{Refusal}
 use Rattle.tables.specs.declared.Refusal.the-variants as refused
 use Rattle.tables.specs.declared.Refusal.the-variants.{Size, Level, Octave, BadSet}
 use Rattle.tables.specs.declared.Checked.the-variants.{Fine, Bad}
-use Rattle.tables.specs.Set.{every, allSet, rising, good, blank, setOf, spareZero, goodRecord}
+use Rattle.tables.specs.Set.{good, goodRecord}
 use Rattle.tables.specs.Refusal.{number, Check, unless, saidAt, refusedSet, readSetOf}
-use Rattle.tables.proofs.SetLaws.{good-record-read, bad-record-refused}
+use Rattle.tables.proofs.SetLaws.{good-record-read, bad-record-refused, read-good}
 use Rattle.tables.proofs.RefusalLaws.{said-bad}
 use Rattle.checks.specs.Checks.{detectChecks}
 use Rattle.alp.specs.Detect.{Outcome, outcome, detectOf}
@@ -50,24 +46,6 @@ pub levels-left-by : {a : Blurred} {l0 l1 l2 l3 : List Float} {r : ℕ} {d : lev
 levels-left-by p e = rw p (ap levelsLeftBy e)
 
 -- ---- the set's record
-
--- the set of zeros is not good
-pub blank-bad : good blank ≡ false
-unfolding good rising blank allSet every finite lt ofBits ofFields odd
-blank-bad = refl
-
-good-setOf : (b : List ℕ) → goodRecord b ≡ true → good (setOf b) ≡ true
-unfolding goodRecord
-good-setOf b e = both (eqb (length b) 528 && spareZero b) (good (setOf b)) e .1
-
--- the set that is read is good exactly when the record is
-pub read-good : (b : List ℕ) → good (readSetOf b .set) ≡ goodRecord b
-unfolding refusedSet
-read-good b = go (goodRecord b) refl
-  where
-    go : (t : Bool) → goodRecord b ≡ t → good (readSetOf b .set) ≡ goodRecord b
-    go true e = ap (λ (r : SetRead). good (r .set)) (good-record-read b e) ∙ (good-setOf b e ∙ sym e)
-    go false e = ap (λ (r : SetRead). good (r .set)) (bad-record-refused b e) ∙ (blank-bad ∙ sym e)
 
 -- the check of a record answers 0 for a good one
 pub good-record-zero : (b : List ℕ) → goodRecord b ≡ true → checkFace (readSetOf b .answer) ≡ 0

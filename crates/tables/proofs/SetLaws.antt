@@ -1,12 +1,12 @@
 -- What a good set gives, what the reader accepts and refuses, and that set T is good.
 use mathlib.Core.Path.{_≡_, refl, sym, ap, _∙_}
-use mathlib.Core.Bool.{Bool, true, false, not, false≢true}
+use mathlib.Core.Bool.{Bool, true, false, not, false≢true, _&&_}
 use mathlib.Core.List.{List, [], _∷_}
 use Prim.Native.Nat.{ℕ, zero, suc, _<_}
 use native.Mathlib.Nat.{not-suc-le-zero, le-of-suc-le-suc}
 use native.Mathlib.Omega.{arith}
-use borrow.Author.Tests.{ltb-true, ltb-false, ne-eqb, not-true}
-use lib.Dec.{ltb}
+use borrow.Author.Tests.{ltb-true, ltb-false, eqb-true, ne-eqb, not-true}
+use lib.Dec.{ltb, eqb}
 use lib.ListN.{length, getD, List·getD-eq-default}
 use lib.Ieee.{Float, nan, lt, ofBits, ofFields, odd}
 use Rattle.float.specs.Small.{finite}
@@ -17,7 +17,7 @@ use Rattle.tables.specs.declared.SetRead.{SetRead}
 use Rattle.tables.specs.declared.Refusal.{Refusal}
 use Rattle.tables.specs.declared.Refusal.the-variants.{BadSet}
 use Rattle.tables.specs.declared.Checked.the-variants.{Fine, Bad}
-use Rattle.tables.specs.Set.{every, allFinite, allUnder, rising, allSet, good, setOf, goodRecord}
+use Rattle.tables.specs.Set.{every, allFinite, allUnder, rising, allSet, good, blank, setOf, spareZero, goodRecord}
 use Rattle.tables.specs.Refusal.{number, refusedSet, readSetOf}
 use Rattle.tables.specs.SetT.{values, sigmasT, cubicT, row, blockT, numbersT, setT}
 use Rattle.tables.proofs.Floats.{no-nan-above, above-positive}
@@ -128,3 +128,28 @@ refusal-is-four b w e = let z : Bad BadSet ≡ Bad w = sym (ap (λ (r : SetRead)
 pub set-t-good : good setT ≡ true
 unfolding values sigmasT cubicT row blockT numbersT setT good allSet rising every finite lt ofBits ofFields odd
 set-t-good = refl
+
+-- ---- the set that is read
+
+-- the set of zeros is not good
+pub blank-bad : good blank ≡ false
+unfolding good rising blank allSet every finite lt ofBits ofFields odd
+blank-bad = refl
+
+good-setOf : (b : List ℕ) → goodRecord b ≡ true → good (setOf b) ≡ true
+unfolding goodRecord
+good-setOf b e = both (eqb (length b) 528 && spareZero b) (good (setOf b)) e .1
+
+-- the set that is read is good exactly when the record is
+pub read-good : (b : List ℕ) → good (readSetOf b .set) ≡ goodRecord b
+unfolding refusedSet
+read-good b = go (goodRecord b) refl
+  where
+    go : (t : Bool) → goodRecord b ≡ t → good (readSetOf b .set) ≡ goodRecord b
+    go true e = ap (λ (r : SetRead). good (r .set)) (good-record-read b e) ∙ (good-setOf b e ∙ sym e)
+    go false e = ap (λ (r : SetRead). good (r .set)) (bad-record-refused b e) ∙ (blank-bad ∙ sym e)
+
+-- a good record is 528 bytes long
+pub good-long : (b : List ℕ) → goodRecord b ≡ true → length b ≡ 528
+unfolding goodRecord
+good-long b e = eqb-true (length b) 528 (both (eqb (length b) 528) (spareZero b) (both (eqb (length b) 528 && spareZero b) (good (setOf b)) e .0) .0)

@@ -8,6 +8,8 @@ mod limits;
 mod reader;
 pub mod refusals;
 
+pub use reader::set_of;
+
 // Tables and numbers that decide what a spot is. `scale` and `geometry` have rows a, b, c, d of three entries each; `spatial` has rows w1 to w5 of
 // nine entries each for scale index 1, then for 2; `numbers` are log sigma origin, curvature epsilon, fit T min, T max, accepted sigma min, max,
 // blend beta, boost, compatibility lower, upper, move cap.

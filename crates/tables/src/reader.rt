@@ -1,5 +1,6 @@
 // The parts of a set's record, each by its place.
 ghost use mathlib.Core.Path.{_≡_};
+ghost use Prim.Native.Nat.{_≤_};
 ghost use lib.ListN.{length, take, drop};
 ghost use Rattle.tables.specs.Set.{setOf, spareZero};
 ghost use Rattle.tables.specs.Refusal.{refusedSet};
@@ -10,7 +11,7 @@ use crate::SetRead;
 
 // The nine sample-order bytes.
 fn order_of(bytes: &[u8]) -> [u8; 9]
-    requires { ⌜ length (now bytes) ≡ 528 ⌝ }
+    requires { ⌜ 528 ≤ length (now bytes) ⌝ }
     ensures { λ r. ⌜ r ≡ take 9 (drop 516 (now (bytes .entry))) ⌝ }
 {
     let mut order = [0u8; 9];
@@ -22,9 +23,9 @@ fn order_of(bytes: &[u8]) -> [u8; 9]
     order
 }
 
-// The set in a record of the right length.
+// The set in the record at the start of the bytes; it need not be good.
 pub fn set_of(bytes: &[u8]) -> Set
-    requires { ⌜ length (now bytes) ≡ 528 ⌝ }
+    requires { ⌜ 528 ≤ length (now bytes) ⌝ }
     ensures { λ r. ⌜ r ≡ setOf (now (bytes .entry)) ⌝ }
 {
     let mut sigmas = [0.0f32; 4];

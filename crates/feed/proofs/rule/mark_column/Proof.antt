@@ -3,7 +3,7 @@ use mathlib.Core.Path.{_≡_, refl, _∙_}
 use Prim.Native.Nat.{ℕ, _-_, _≤_, _<_}
 use native.Mathlib.Nat.{not-suc-le-zero, ne-of-lt}
 use native.Mathlib.Omega.{arith}
-use lib.ListN.{length, getD, length-set}
+use lib.ListN.{length, getD, set, length-set}
 use lib.Seq.{getD-set-same, getD-set-other}
 use borrow.Author.Count.{below-more}
 use Rattle.feed.proofs.SpotsLaws.{height-most}
@@ -33,7 +33,7 @@ loop-again c =
     let l = c .before .loop in
     let p = c .before .before .pre in
     let inside : l .i < length (l .marks) = omega (arith, l .inv .1, c .loop-test .taken, p .1 .1 .0, height-most (c .before .before .args .s), p .0 .rows-most) in
-    (omega arith, length-set (l .marks) (l .i) 1 ∙ l .inv .1, below-more (λ k. getD _ k 0 ≡ 1) (l .i) (λ k h. getD-set-other (l .marks) (l .i) k 1 0 (ne-of-lt h) ∙ l .inv .2 k h) (getD-set-same (l .marks) (l .i) 1 0 inside))
+    (omega arith, length-set (l .marks) (l .i) 1 ∙ l .inv .1, below-more (λ k. getD (set (l .marks) (l .i) 1) k 0 ≡ 1) (l .i) (λ k h. getD-set-other (l .marks) (l .i) k 1 0 (ne-of-lt h) ∙ l .inv .2 k h) (getD-set-same (l .marks) (l .i) 1 0 inside))
 
 returns : tie.Need-returns Inv-loop μ-loop
 returns c =
