@@ -267,10 +267,20 @@ fn blank(random: &mut Random, thresholds: &mut [f32; 5]) {
     }
 }
 
-/// A start with any of the five faults by the number's low bits: sides, octave, thresholds, set, room; then by the number which slice of the ring is short,
-/// or that the state is.
+/// The faults of a start, of sides, octave, thresholds, set and room: half of the numbers go through all choices, the others have none, the last or one.
+fn start_faults(random: &mut Random, number: usize) -> [bool; 5] {
+    let chosen = match number % 6 {
+        0 | 2 | 4 => number / 2,
+        1 => 0,
+        3 => 16,
+        _ => 1 << random.below(5),
+    };
+    core::array::from_fn(|fault| chosen >> fault & 1 == 1)
+}
+
+/// A start with faults by the number; where room is one of them, which slice of the ring is short, or that the state is, goes by the number too.
 pub fn start(random: &mut Random, number: usize) -> Case {
-    let [size, octave, nan, bad, room] = core::array::from_fn(|fault| number >> fault & 1 == 1);
+    let [size, octave, nan, bad, room] = start_faults(random, number);
     let set = sets::any(random);
     let side = |random: &mut Random| match random.below(8) {
         0 => random.pick(&[0, 4096, 4095, 1]),
@@ -288,7 +298,7 @@ pub fn start(random: &mut Random, number: usize) -> Case {
     let mut ring = ring(random, rows);
     let mut state = random.pick(&[STATE, STATE, STATE + 1, STATE + 100]);
     if room {
-        short(random, number / 32, rows, &mut ring, &mut state);
+        short(random, number / 6, rows, &mut ring, &mut state);
     }
     if bad {
         start.record = bad_record(random);
@@ -447,7 +457,7 @@ fn narrow(random: &mut Random) -> Scene {
     let (rows, cols) = match random.below(64) {
         0 => (4096, 9),
         1 => (random.below(9), random.from_to(9, 12)),
-        _ => (random.from_to(9, 24), random.from_to(9, 14)),
+        _ => (random.from_to(12, 24), random.from_to(9, 14)),
     };
     let set = match random.below(4) {
         0 => sets::any(random),
@@ -455,7 +465,13 @@ fn narrow(random: &mut Random) -> Scene {
         _ => sets::real(random),
     };
     let mut scene = under(random, set, rows, cols);
-    if random.once_in(8) {
+    if random.once_in(2) {
+        scene.thresholds = [0.0, 0.0, f32::INFINITY, 0.0, f32::INFINITY];
+    }
+    if random.once_in(2) {
+        scene.levels = maps::lattice(random, &scene.set, rows, cols);
+    }
+    if random.once_in(4) {
         scene = full(random);
     }
     scene

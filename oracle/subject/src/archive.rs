@@ -52,7 +52,7 @@ impl FeedRooms {
 }
 
 /// Four buffers beside the page.
-fn lend_four<'a>(rooms: &'a mut [Room; 4], side: Side, four: [&[f32]; 4]) -> [&'a mut [f32]; 4] {
+pub fn lend_four<'a>(rooms: &'a mut [Room; 4], side: Side, four: [&[f32]; 4]) -> [&'a mut [f32]; 4] {
     let mut four = four.iter();
     rooms.each_mut().map(|room| {
         let values = four.next().map_or(&[][..], |values| values);

@@ -198,17 +198,16 @@ fn records(state: &State, call: &Call) -> Vec<Vec<u8>> {
 /// The state and the records of a call that is taken, else its refusal, the first that applies: 9, 2, 6 for the ring, 6 for the output.
 fn taken(call: &Call) -> Result<(State, Vec<Vec<u8>>), u32> {
     let state = State::read(call.state).ok_or(9u32)?;
+    let State { rows, .. } = state;
+    let wrong = call.columns.iter().any(|column| column.len() != rows);
+    let short = call.ring.iter().any(|slice| slice.len() < RING * rows);
     if state.past() {
         return Err(9);
     }
-    if call.columns.iter().any(|column| column.len() != state.rows) {
+    if wrong {
         return Err(2);
     }
-    if call
-        .ring
-        .iter()
-        .any(|slice| slice.len() < RING * state.rows)
-    {
+    if short {
         return Err(6);
     }
     let records = records(&state, call);

@@ -1,0 +1,393 @@
+//! Maps given to the archive's feed column by column: what it lists, put in order, against detection's list and the judge's.
+
+use crate::judged::Judge;
+use crate::own::{scene_of, told, whole};
+use crate::plan;
+use crate::runs::in_order;
+use cases::families::lively;
+use cases::feeds::{POSITION, RING, STATE, start_of, worst};
+use cases::random::Random;
+use cases::records::SPOT;
+use cases::{Case, Scene};
+use subject::archive::{Archive, lend_four};
+use subject::guarded::{Room, Side};
+use subject::{Reply, Subject, difference, made_of};
+use uramsheg::{Refusal, feed_column, feed_start};
+
+/// The families whose maps are fed.
+const FAMILIES: [&str; 8] = [
+    "list", "detect", "sized", "wide", "steep", "blanks", "limits", "raw",
+];
+
+/// Apart from the families' own sources.
+const SOURCE: u64 = 1 << 33;
+
+/// What a feed is lent, beside an untouchable page.
+#[derive(Default)]
+struct Rooms {
+    state: Room,
+    ring: [Room; 4],
+    columns: [Room; 4],
+    out: Room,
+}
+
+/// The rooms of a feed and of one beside it.
+#[derive(Default)]
+pub struct Lanes {
+    rooms: [Rooms; 2],
+}
+
+/// A feed in the midst of its map.
+struct Lane<'a> {
+    scene: &'a Scene,
+    side: Side,
+    state: &'a mut [u8],
+    ring: [&'a mut [f32]; 4],
+    columns: &'a mut [Room; 4],
+    out: &'a mut [u8],
+    next: usize,
+    stop: usize,
+    records: Vec<u8>,
+}
+
+/// What the output holds before a call.
+const FILL: u8 = 0xa5;
+
+impl<'a> Lane<'a> {
+    /// A feed of a scene, its ring filled first; or the start's refusal.
+    fn started(rooms: &'a mut Rooms, scene: &'a Scene, random: &mut Random) -> Result<Self, u32> {
+        let side = random.pick(&[Side::Before, Side::Behind]);
+        let start = start_of(scene);
+        let rows = start.rows.min(4096);
+        let (fill, longer) = (random.any(), random.pick(&[0, 0, 1, rows]));
+        let filled = vec![fill; RING * rows + longer];
+        let ring = lend_four(&mut rooms.ring, side, [&filled; 4]);
+        let state = rooms.state.lend(side, &[FILL; STATE]);
+        let [peak, sigma, ratio, low, high] = start.thresholds;
+        let thresholds = uramsheg::Thresholds {
+            peak,
+            sigma,
+            ratio,
+            low,
+            high,
+        };
+        let sides = (start.rows, start.cols, start.octave);
+        let slices = ring.each_ref().map(|slice| &**slice);
+        feed_start(&start.record, thresholds, sides, slices, state).map_err(Refusal::number)?;
+        let stop = match random.below(8) {
+            0 => random.below(scene.cols + 1),
+            _ => scene.cols,
+        };
+        Ok(Lane {
+            scene,
+            side,
+            state,
+            ring,
+            columns: &mut rooms.columns,
+            out: rooms.out.lend(side, &vec![FILL; worst(rows)]),
+            next: 0,
+            stop,
+            records: Vec::new(),
+        })
+    }
+
+    /// One call with a column of this length in one level and so much output and ring; a refusal must leave everything as it was.
+    fn call(
+        &mut self,
+        (level, length): (usize, usize),
+        room: usize,
+        ring: usize,
+    ) -> Result<usize, u32> {
+        let rows = self.scene.rows;
+        let first = self.next.min(self.scene.cols.saturating_sub(1)) * rows;
+        let mut given = [0, 1, 2, 3].map(|k| {
+            self.scene.levels[k]
+                .get(first..first + rows)
+                .unwrap_or(&[])
+                .to_vec()
+        });
+        given[level].resize(length, 0.0);
+        let lent = lend_four(self.columns, self.side, given.each_ref().map(Vec::as_slice));
+        let columns = lent.each_ref().map(|column| &**column);
+        let slices = self.ring.each_mut().map(|slice| {
+            let length = ring.min(slice.len());
+            &mut slice[..length]
+        });
+        feed_column(self.state, columns, slices, &mut self.out[..room]).map_err(Refusal::number)
+    }
+
+    /// A call that must be refused with this number.
+    fn refused(
+        &mut self,
+        number: u32,
+        column: (usize, usize),
+        room: usize,
+        ring: usize,
+    ) -> Result<(), String> {
+        let before = self.held();
+        let answer = self.call(column, room, ring);
+        if answer != Err(number) {
+            return Err(format!(
+                "column {}: {answer:?} where {number} is due",
+                self.next
+            ));
+        }
+        match self.held() == before {
+            true => Ok(()),
+            false => Err(format!(
+                "column {}: refused with {number}, and something changed",
+                self.next
+            )),
+        }
+    }
+
+    /// Everything that a call may write.
+    fn held(&self) -> (Vec<u8>, Vec<u32>, Vec<u8>) {
+        let bits = self
+            .ring
+            .iter()
+            .flat_map(|slice| slice.iter().map(|pixel| pixel.to_bits()));
+        (self.state.to_vec(), bits.collect(), self.out.to_vec())
+    }
+
+    /// Refused calls, now and then: a wrong length, a short slice of the ring, both.
+    fn disturbed(&mut self, random: &mut Random) -> Result<(), String> {
+        let rows = self.scene.rows;
+        let level = random.below(4);
+        let wrong = random.pick(&[rows + 1, 2 * rows + 1, rows.max(1) - 1]);
+        let short = RING * rows - 1;
+        let room = self.out.len();
+        match random.below(24) {
+            0 if wrong != rows => self.refused(2, (level, wrong), room, usize::MAX),
+            1 => self.refused(6, (level, rows), room, short),
+            2 if wrong != rows => self.refused(2, (level, wrong), 0, short),
+            _ => Ok(()),
+        }
+    }
+
+    /// The next column: a short room first now and then, then as much as it may take.
+    fn step(&mut self, random: &mut Random) -> Result<(), String> {
+        let rows = self.scene.rows;
+        if rows > 0 {
+            self.disturbed(random)?;
+        }
+        let short = random
+            .once_in(8)
+            .then(|| random.pick(&[0, 39, 40]).min(self.out.len()));
+        let mut room = short.unwrap_or(self.out.len());
+        let before = short.map(|_| self.held());
+        let mut answer = self.call((0, rows), room, usize::MAX);
+        if let (Some(before), Err(6)) = (before, answer) {
+            if self.held() != before {
+                return Err(format!(
+                    "column {}: refused for its room, and something changed",
+                    self.next
+                ));
+            }
+            room = self.out.len();
+            answer = self.call((0, rows), room, usize::MAX);
+        }
+        let count =
+            answer.map_err(|number| format!("column {}: refused with {number}", self.next))?;
+        self.take(count)
+    }
+
+    /// Keeps what was listed, and looks at what is past it and at the position.
+    fn take(&mut self, count: usize) -> Result<(), String> {
+        let listed = SPOT * count;
+        self.records.extend(&self.out[..listed]);
+        self.next += 1;
+        let kept = self.out[listed..].iter().all(|&byte| byte == FILL);
+        self.out[..listed].fill(FILL);
+        let position = self.state[POSITION..][..4] == (self.next as u32).to_le_bytes();
+        match kept && position {
+            true => Ok(()),
+            false => Err(format!(
+                "column {}: the output past its records, or the position",
+                self.next - 1
+            )),
+        }
+    }
+
+    /// Calls after the last column.
+    fn ended(&mut self, random: &mut Random) -> Result<(), String> {
+        if self.next < self.scene.cols {
+            return Ok(());
+        }
+        let rows = self.scene.rows;
+        let wrong = random.pick(&[rows, rows + 1, 0]);
+        self.refused(
+            9,
+            (random.below(4), wrong),
+            0,
+            random.pick(&[usize::MAX, 0]),
+        )
+    }
+
+    /// What was listed, in order.
+    fn listed(&self) -> Vec<u8> {
+        in_order(&self.records)
+    }
+
+    /// Of a whole list the records that are due: those of the judged columns.
+    fn due(&self, list: &[u8]) -> Vec<u8> {
+        let col = |record: &[u8]| {
+            let key = u32::from_le_bytes(core::array::from_fn(|k| record[32 + k]));
+            key as usize % self.scene.cols
+        };
+        let judged = |record: &&[u8]| col(record) + 2 < self.next;
+        let records: Vec<&[u8]> = list.chunks_exact(SPOT).filter(judged).collect();
+        records.concat()
+    }
+}
+
+/// What a feed of a scene listed by the columns that it judged, and what was due of a list; None where its start is refused.
+type Listed = Option<(Vec<u8>, Vec<u8>)>;
+
+impl Lanes {
+    /// Feeds a scene, another beside it now and then, and compares with the scene's whole list; `number` chooses what comes between.
+    pub fn feed(
+        &mut self,
+        seed: u64,
+        number: u64,
+        scene: &Scene,
+        list: &[u8],
+    ) -> Result<Listed, String> {
+        let random = &mut Random::new(seed, SOURCE, number);
+        let beside = random.once_in(8).then(|| lively(random));
+        let [first, second] = &mut self.rooms;
+        let mut lanes = Vec::new();
+        match Lane::started(first, scene, random) {
+            Ok(lane) => lanes.push(lane),
+            Err(_) => return Ok(None),
+        }
+        if let Some(other) = &beside {
+            lanes.extend(Lane::started(second, other, random).ok());
+        }
+        while let Some(turn) = turn(random, &lanes) {
+            lanes[turn].step(random)?;
+        }
+        for lane in &mut lanes {
+            lane.ended(random)?;
+        }
+        if let Some(lane) = lanes.get(1) {
+            let whole = whole(Judge::sound(), lane.scene).1;
+            if lane.listed() != lane.due(&whole) {
+                return Err("the feed beside it parts from its list".into());
+            }
+        }
+        Ok(Some((lanes[0].listed(), lanes[0].due(list))))
+    }
+}
+
+/// A feed that has columns left.
+fn turn(random: &mut Random, lanes: &[Lane]) -> Option<usize> {
+    let left: Vec<usize> = (0..lanes.len())
+        .filter(|&k| lanes[k].next < lanes[k].stop)
+        .collect();
+    (!left.is_empty()).then(|| random.pick(&left))
+}
+
+/// What was seen of fed maps.
+#[derive(Default)]
+pub struct Seen {
+    pub maps: usize,
+    pub refused: usize,
+    pub spots: usize,
+    pub differing: usize,
+    pub first: Option<String>,
+}
+
+impl Seen {
+    /// Feeds a map and counts it.
+    pub fn feed(
+        &mut self,
+        lanes: &mut Lanes,
+        name: &str,
+        number: (u64, u64),
+        scene: &Scene,
+        list: &[u8],
+    ) {
+        self.maps += 1;
+        let fault = match lanes.feed(number.0, number.1, scene, list) {
+            Ok(None) => {
+                self.refused += 1;
+                None
+            }
+            Ok(Some((listed, due))) => {
+                self.spots += listed.len() / SPOT;
+                (listed != due).then(|| difference(&due, &listed))
+            }
+            Err(fault) => Some(fault),
+        };
+        if let Some(fault) = fault {
+            self.differing += 1;
+            self.first.get_or_insert_with(|| format!("{name}: {fault}"));
+        }
+    }
+}
+
+impl Seen {
+    pub fn tell(self, name: &str) -> bool {
+        let Seen {
+            maps,
+            refused,
+            spots,
+            differing,
+            first,
+        } = self;
+        let seen =
+            format!("{maps} maps, {differing} differ, {spots} spots, {refused} starts refused");
+        told(name, first, &seen)
+    }
+}
+
+/// The scene of a case that detects, with levels of its own length.
+fn fed_scene(family: &str, seed: u64, one: &plan::Numbered) -> Option<Scene> {
+    let scene = match &one.case {
+        Case::FromRaw { scene, pixels } => made_of(&mut Judge::sound(), scene, pixels)?.ok(),
+        _ => scene_of(family, seed, one),
+    }?;
+    let size = scene.rows.checked_mul(scene.cols)?;
+    scene
+        .levels
+        .iter()
+        .all(|level| level.len() == size)
+        .then_some(scene)
+}
+
+/// The archive's own list, in room enough.
+fn detected(archive: &mut Archive, scene: &Scene) -> Vec<u8> {
+    let mut out = vec![0; worst(scene.rows) * scene.cols];
+    match archive.detect(scene, &mut out) {
+        Some(Reply::Done(count)) => out.truncate(SPOT * count),
+        _ => out.clear(),
+    }
+    out
+}
+
+/// Every map of the families, fed.
+pub fn run(seed: u64, times: usize) -> bool {
+    let (mut lanes, mut archive) = (Lanes::default(), Archive::default());
+    let mut sound = true;
+    for family in FAMILIES {
+        let mut seen = Seen::default();
+        plan::each(family, seed, times, |one| {
+            let Some(scene) = fed_scene(family, seed, &one) else {
+                return;
+            };
+            let name = format!("{family} {seed} {}", one.number);
+            let (reply, mut list) = whole(Judge::sound(), &scene);
+            if !matches!(reply, Some(Reply::Done(_))) {
+                list.clear();
+            }
+            if scene.rows <= 4096 && scene.cols <= 4096 && detected(&mut archive, &scene) != list {
+                let words = || format!("{name}: detection itself parts from the judge");
+                seen.first.get_or_insert_with(words);
+            }
+            seen.feed(&mut lanes, &name, (seed, one.number as u64), &scene, &list);
+        });
+        sound &= seen.tell(&format!("fed-{family}"));
+    }
+    sound
+}
