@@ -17,7 +17,9 @@ const LONGEST: usize = 4096;
 pub fn feed_start(
     set: &[u8],
     thresholds: Thresholds,
-    (rows, cols, octave): (usize, usize, usize),
+    rows: usize,
+    cols: usize,
+    octave: usize,
     ring: [&[f32]; 4],
     state: &mut [u8],
 ) -> Result<(), Refusal> {
@@ -130,7 +132,7 @@ impl Feed {
             out: vec![0; 2 * held * SPOT_BYTES],
         };
         let ring = feed.ring.each_ref().map(Vec::as_slice);
-        feed_start(set, thresholds, (rows, cols, octave), ring, &mut feed.state)?;
+        feed_start(set, thresholds, rows, cols, octave, ring, &mut feed.state)?;
         Ok(feed)
     }
 
@@ -166,14 +168,17 @@ impl Feed {
         u32::from_le_bytes(bytes) as usize
     }
 
+    /// The map's rows: how long each column is.
     pub fn rows(&self) -> usize {
         self.number(548)
     }
 
+    /// The map's cols: how many columns the feed takes.
     pub fn cols(&self) -> usize {
         self.number(552)
     }
 
+    /// The octave that its spots carry.
     pub fn octave(&self) -> u8 {
         self.state[560]
     }

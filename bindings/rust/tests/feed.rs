@@ -198,8 +198,7 @@ fn lent(ring: [usize; 4], state: usize) -> (Result<(), Refusal>, bool) {
     let ring = ring.map(|length| vec![0.5; length]);
     let mut state = vec![0xa5; state];
     let slices = ring.each_ref().map(Vec::as_slice);
-    let sides = (ROWS, COLS, 3);
-    let answer = uramsheg::feed_start(&set_t(), THRESHOLDS, sides, slices, &mut state);
+    let answer = uramsheg::feed_start(&set_t(), THRESHOLDS, ROWS, COLS, 3, slices, &mut state);
     (answer, state.iter().any(|&byte| byte != 0xa5))
 }
 
@@ -224,7 +223,7 @@ fn a_state_is_laid_out_as_the_header_says() {
     let ring = [0; 4].map(|_| vec![0.0f32; RING_COLUMNS * ROWS]);
     let mut state = vec![0xa5; FEED_BYTES + 2];
     let slices = ring.each_ref().map(Vec::as_slice);
-    uramsheg::feed_start(&set_t(), THRESHOLDS, (ROWS, COLS, 3), slices, &mut state).unwrap();
+    uramsheg::feed_start(&set_t(), THRESHOLDS, ROWS, COLS, 3, slices, &mut state).unwrap();
     let mut due = set_t();
     for threshold in [1.0, 1.0, 10.0, 1.9027314, 4.1498866f32] {
         due.extend(threshold.to_le_bytes());

@@ -58,9 +58,9 @@ impl<'a> Lane<'a> {
     fn started(rooms: &'a mut Rooms, scene: &'a Scene, random: &mut Random) -> Result<Self, u32> {
         let side = random.pick(&[Side::Before, Side::Behind]);
         let start = start_of(scene);
-        let rows = start.rows.min(4096);
-        let (fill, longer) = (random.any(), random.pick(&[0, 0, 1, rows]));
-        let filled = vec![fill; RING * rows + longer];
+        let held = start.rows.min(4096);
+        let (fill, longer) = (random.any(), random.pick(&[0, 0, 1, held]));
+        let filled = vec![fill; RING * held + longer];
         let ring = lend_four(&mut rooms.ring, side, [&filled; 4]);
         let state = rooms.state.lend(side, &[FILL; STATE]);
         let [peak, sigma, ratio, low, high] = start.thresholds;
@@ -71,9 +71,10 @@ impl<'a> Lane<'a> {
             low,
             high,
         };
-        let sides = (start.rows, start.cols, start.octave);
+        let (rows, cols, octave) = (start.rows, start.cols, start.octave);
         let slices = ring.each_ref().map(|slice| &**slice);
-        feed_start(&start.record, thresholds, sides, slices, state).map_err(Refusal::number)?;
+        feed_start(&start.record, thresholds, rows, cols, octave, slices, state)
+            .map_err(Refusal::number)?;
         let stop = match random.below(8) {
             0 => random.below(scene.cols + 1),
             _ => scene.cols,
@@ -84,7 +85,7 @@ impl<'a> Lane<'a> {
             state,
             ring,
             columns: &mut rooms.columns,
-            out: rooms.out.lend(side, &vec![FILL; worst(rows)]),
+            out: rooms.out.lend(side, &vec![FILL; worst(held)]),
             next: 0,
             stop,
             records: Vec::new(),

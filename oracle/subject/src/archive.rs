@@ -52,7 +52,11 @@ impl FeedRooms {
 }
 
 /// Four buffers beside the page.
-pub fn lend_four<'a>(rooms: &'a mut [Room; 4], side: Side, four: [&[f32]; 4]) -> [&'a mut [f32]; 4] {
+pub fn lend_four<'a>(
+    rooms: &'a mut [Room; 4],
+    side: Side,
+    four: [&[f32]; 4],
+) -> [&'a mut [f32]; 4] {
     let mut four = four.iter();
     rooms.each_mut().map(|room| {
         let values = four.next().map_or(&[][..], |values| values);
@@ -334,13 +338,13 @@ impl Subject for Archive {
             low,
             high,
         };
-        let sides = (start.rows, start.cols, start.octave);
+        let (rows, cols, octave) = (start.rows, start.cols, start.octave);
         Some(both_sides(state, |side, left| {
             let set = self.set.lend(side, &start.record);
             let lent = lend_four(&mut self.levels, side, ring);
             let room = self.out.lend(side, left);
             let slices = lent.each_ref().map(|slice| &**slice);
-            let answer = uramsheg::feed_start(set, thresholds, sides, slices, room);
+            let answer = uramsheg::feed_start(set, thresholds, rows, cols, octave, slices, room);
             assert!(
                 four_bytes(&lent) == ring.map(bytes),
                 "a start wrote the ring"
