@@ -8,7 +8,7 @@ use cases::families::lively;
 use cases::feeds::{POSITION, RING, STATE, start_of, worst};
 use cases::random::Random;
 use cases::records::SPOT;
-use cases::{Case, Scene};
+use cases::{Case, Scene, Start};
 use subject::archive::{Archive, lend_four};
 use subject::guarded::{Room, Side};
 use subject::{Reply, Subject, difference, made_of};
@@ -53,9 +53,28 @@ struct Lane<'a> {
 /// What the output holds before a call.
 const FILL: u8 = 0xa5;
 
+/// The archive's start.
+fn begun(start: &Start, ring: [&[f32]; 4], state: &mut [u8]) -> Result<(), u32> {
+    let [peak, sigma, ratio, low, high] = start.thresholds;
+    let thresholds = uramsheg::Thresholds {
+        peak,
+        sigma,
+        ratio,
+        low,
+        high,
+    };
+    let (rows, cols, octave) = (start.rows, start.cols, start.octave);
+    let answer = feed_start(&start.record, thresholds, rows, cols, octave, ring, state);
+    answer.map_err(Refusal::number)
+}
+
 impl<'a> Lane<'a> {
-    /// A feed of a scene, its ring filled first; or the start's refusal.
-    fn started(rooms: &'a mut Rooms, scene: &'a Scene, random: &mut Random) -> Result<Self, u32> {
+    /// A feed of a scene, its ring filled first, started as the judge's is; none where both refuse.
+    fn started(
+        rooms: &'a mut Rooms,
+        scene: &'a Scene,
+        random: &mut Random,
+    ) -> Result<Option<Self>, String> {
         let side = random.pick(&[Side::Before, Side::Behind]);
         let start = start_of(scene);
         let held = start.rows.min(4096);
@@ -63,23 +82,21 @@ impl<'a> Lane<'a> {
         let filled = vec![fill; RING * held + longer];
         let ring = lend_four(&mut rooms.ring, side, [&filled; 4]);
         let state = rooms.state.lend(side, &[FILL; STATE]);
-        let [peak, sigma, ratio, low, high] = start.thresholds;
-        let thresholds = uramsheg::Thresholds {
-            peak,
-            sigma,
-            ratio,
-            low,
-            high,
-        };
-        let (rows, cols, octave) = (start.rows, start.cols, start.octave);
         let slices = ring.each_ref().map(|slice| &**slice);
-        feed_start(&start.record, thresholds, rows, cols, octave, slices, state)
-            .map_err(Refusal::number)?;
+        let answer = begun(&start, slices, state);
+        let mut due = [FILL; STATE];
+        let sound = Judge::sound().feed_start(&start, slices, &mut due);
+        if sound != Some(answer) || *state != due {
+            return Err(format!("the start: {answer:?}, by the judge {sound:?}"));
+        }
+        if answer.is_err() {
+            return Ok(None);
+        }
         let stop = match random.below(8) {
             0 => random.below(scene.cols + 1),
             _ => scene.cols,
         };
-        Ok(Lane {
+        Ok(Some(Lane {
             scene,
             side,
             state,
@@ -89,7 +106,7 @@ impl<'a> Lane<'a> {
             next: 0,
             stop,
             records: Vec::new(),
-        })
+        }))
     }
 
     /// One call with a column of this length in one level and so much output and ring; a refusal must leave everything as it was.
@@ -258,12 +275,12 @@ impl Lanes {
         let beside = random.once_in(8).then(|| lively(random));
         let [first, second] = &mut self.rooms;
         let mut lanes = Vec::new();
-        match Lane::started(first, scene, random) {
-            Ok(lane) => lanes.push(lane),
-            Err(_) => return Ok(None),
+        lanes.extend(Lane::started(first, scene, random)?);
+        if lanes.is_empty() {
+            return Ok(None);
         }
         if let Some(other) = &beside {
-            lanes.extend(Lane::started(second, other, random).ok());
+            lanes.extend(Lane::started(second, other, random)?);
         }
         while let Some(turn) = turn(random, &lanes) {
             lanes[turn].step(random)?;
