@@ -7,6 +7,8 @@ mod fed;
 #[cfg(feature = "archive")]
 mod forged;
 mod judged;
+#[cfg(feature = "archive")]
+mod lanes;
 mod own;
 mod plan;
 #[cfg(feature = "probe")]

@@ -1,7 +1,8 @@
 //! The soak: detection's list on odd maps, and the feed's of the same, the archive's against the judge's.
 
-use crate::fed::{self, Lanes};
+use crate::fed;
 use crate::judged::{Judge, from_judge};
+use crate::lanes::Lanes;
 use crate::own::{told, whole};
 use cases::odd::{ROWS, WALK, WAYS, detection, tightened};
 use cases::records::SPOT;
