@@ -364,58 +364,19 @@ pub const WAYS: usize = 12;
 
 /// Forges a state in one of the ways, the first of which leaves it as it is.
 pub fn forge(random: &mut Random, way: usize, state: &mut Vec<u8>) {
-    let [rows, cols] =
-        [ROWS, COLS].map(|at| usize::from(state[at]) + 256 * usize::from(state[at + 1]));
-    let near = [
-        cols,
-        cols + 1,
-        cols.saturating_sub(1),
-        cols.saturating_sub(2),
-        cols.saturating_sub(3),
-    ];
     match way % WAYS {
         0 => {}
         1 => {
-            let far = [
-                0,
-                1,
-                5,
-                6,
-                7,
-                u32::MAX as usize,
-                random.word() as usize,
-                random.pick(&near),
-            ];
-            put(state, POSITION, random.pick(&far));
+            let position = odd_position(random, state);
+            put(state, POSITION, position);
         }
         2 => {
-            let sides = [
-                4096,
-                4097,
-                65536,
-                u32::MAX as usize,
-                0,
-                8,
-                rows + 1,
-                rows.saturating_sub(1),
-            ];
-            put(state, random.pick(&[ROWS, COLS, COLS]), random.pick(&sides));
+            let side = odd_side(random, state);
+            put(state, random.pick(&[ROWS, COLS, COLS]), side);
         }
-        3 => state[..RECORD].copy_from_slice(&sets::damaged(random).record()),
-        4 => {
-            let at = random.from_to(516, 527);
-            state[at] = random.pick(&[9, 10, 128, 255, 1]);
-        }
-        5 => {
-            let mut five = [f32::NAN; 5];
-            five.iter_mut()
-                .enumerate()
-                .for_each(|(k, t)| *t = f32::from_le_bytes(word(state, 528 + 4 * k)));
-            blank(random, &mut five);
-            five.iter()
-                .enumerate()
-                .for_each(|(k, t)| state[528 + 4 * k..][..4].copy_from_slice(&t.to_le_bytes()));
-        }
+        3 => damage(random, state),
+        4 => state[random.from_to(516, 527)] = random.pick(&[9, 10, 128, 255, 1]),
+        5 => blank_state(random, state),
         6 => state[OCTAVE] = random.pick(&[6, 7, 128, 255]),
         7 => state[random.from_to(561, 563)] = random.word() as u8,
         8 => {
@@ -429,23 +390,84 @@ pub fn forge(random: &mut Random, way: usize, state: &mut Vec<u8>) {
         }
         10 => {
             for place in 0..random.pick(&[4, 28, 129]) {
-                let float = if random.once_in(2) {
-                    random.any()
-                } else {
-                    random.pattern()
-                };
-                state[4 * place..][..4].copy_from_slice(&float.to_le_bytes());
+                let floats = [random.any(), random.pattern()];
+                put_float(state, place, random.pick(&floats));
             }
         }
         _ => {
-            let kept = random.pick(&[0, RECORD, ROWS]);
-            let forged = bytes(random, STATE);
-            match kept {
-                0 => state[..STATE].copy_from_slice(&forged),
-                kept => state[..kept].copy_from_slice(&forged[..kept]),
-            }
+            let forged = random.pick(&[STATE, RECORD, ROWS]);
+            let other = bytes(random, forged);
+            state[..forged].copy_from_slice(&other);
         }
     }
+}
+
+/// A position far off, or where an answer turns.
+fn odd_position(random: &mut Random, state: &[u8]) -> usize {
+    let cols = whole(state, COLS);
+    let near = (cols + 1).saturating_sub(random.below(5));
+    let far = [
+        0,
+        1,
+        5,
+        6,
+        7,
+        u32::MAX as usize,
+        random.word() as usize,
+        near,
+    ];
+    random.pick(&far)
+}
+
+/// A side that is no map's, another map's, or one off.
+fn odd_side(random: &mut Random, state: &[u8]) -> usize {
+    let rows = whole(state, ROWS);
+    let near = [rows + 1, rows.saturating_sub(1)];
+    let far = [4096, 4097, 65536, u32::MAX as usize, 0, 8, near[0], near[1]];
+    random.pick(&far)
+}
+
+/// A set that is not good: another one, or the state's own with one float that makes it so; not every float is one that detection reads.
+fn damage(random: &mut Random, state: &mut [u8]) {
+    if random.once_in(4) {
+        return state[..RECORD].copy_from_slice(&sets::damaged(random).record());
+    }
+    let place = random.below(sets::FLOATS);
+    let odd = [f32::NAN, f32::INFINITY, f32::NEG_INFINITY];
+    match random.below(3) {
+        0 => put_float(state, place, random.pick(&odd)),
+        1 => put_float(state, random.from_to(118, 128), random.pick(&odd)),
+        _ => {
+            let sigma = random.below(4);
+            let other = f32::from_le_bytes(word(state, 4 * random.below(4)));
+            put_float(
+                state,
+                sigma,
+                random.pick(&[other, 0.0, -1.0, other.next_down(), other * 2.0]),
+            );
+        }
+    }
+}
+
+/// A NaN in one of a state's thresholds or in all, in the ratio half of the time.
+fn blank_state(random: &mut Random, state: &mut [u8]) {
+    let float = |k| f32::from_le_bytes(word(state, RECORD + 4 * k));
+    let mut five = core::array::from_fn(float);
+    match random.once_in(2) {
+        true => five[2] = f32::from_bits(random.pick(&NANS)),
+        false => blank(random, &mut five),
+    }
+    for (k, threshold) in five.into_iter().enumerate() {
+        put_float(state, RECORD / 4 + k, threshold);
+    }
+}
+
+fn put_float(state: &mut [u8], place: usize, value: f32) {
+    state[4 * place..4 * place + 4].copy_from_slice(&value.to_le_bytes());
+}
+
+fn whole(state: &[u8], at: usize) -> usize {
+    u32::from_le_bytes(word(state, at)) as usize
 }
 
 fn word(state: &[u8], at: usize) -> [u8; 4] {
@@ -517,13 +539,11 @@ fn forged_state(random: &mut Random, way: usize, sound: Vec<u8>) -> Vec<u8> {
         let second = random.below(WAYS);
         forge(random, second, &mut state);
     }
-    let whole = |at| u32::from_le_bytes(word(&state, at)) as usize;
-    if state.len() >= STATE
-        && whole(ROWS) <= 4096
-        && whole(COLS) <= 4096
-        && whole(ROWS) * whole(COLS) > PIXELS
-    {
-        state[COLS..COLS + 4].copy_from_slice(&sound[COLS..COLS + 4]);
+    if state.len() >= STATE {
+        let [rows, cols] = [ROWS, COLS].map(|at| whole(&state, at));
+        if rows.max(cols) <= 4096 && rows * cols > PIXELS {
+            state[COLS..COLS + 4].copy_from_slice(&sound[COLS..COLS + 4]);
+        }
     }
     state
 }
