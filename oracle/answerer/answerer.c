@@ -90,11 +90,13 @@ static Reals reals(void) {
 }
 
 static void give_reals(Reals given) {
+    uint8_t *wire = room(4 * given.length);
     for (size_t i = 0; i < given.length; i++) {
         uint32_t pattern = pattern_of(given.values[i]);
-        uint8_t wire[4] = {(uint8_t)pattern, (uint8_t)(pattern >> 8), (uint8_t)(pattern >> 16), (uint8_t)(pattern >> 24)};
-        give(wire, sizeof wire);
+        for (int k = 0; k < 4; k++) wire[4 * i + k] = (uint8_t)(pattern >> 8 * k);
     }
+    give(wire, 4 * given.length);
+    free(wire);
 }
 
 static void detect(void) {
@@ -174,6 +176,45 @@ static void levels(void) {
     free(raw.values);
 }
 
+static void feed_start(void) {
+    Bytes set = bytes();
+    float thresholds[5];
+    for (int i = 0; i < 5; i++) thresholds[i] = real();
+    size_t rows = number(), cols = number(), octave = number();
+    Reals r[4];
+    for (int i = 0; i < 4; i++) r[i] = reals();
+    Bytes state = bytes();
+    answer(uramsheg_feed_start(set.bytes, set.length, thresholds[0], thresholds[1], thresholds[2], thresholds[3], thresholds[4], rows, cols, octave,
+                               r[0].values, r[0].length, r[1].values, r[1].length, r[2].values, r[2].length, r[3].values, r[3].length, state.bytes,
+                               state.length));
+    give(state.bytes, state.length);
+    for (int i = 0; i < 4; i++) free(r[i].values);
+    free(set.bytes);
+    free(state.bytes);
+}
+
+static void feed_column(void) {
+    Bytes state = bytes();
+    Reals c[4], r[4];
+    for (int i = 0; i < 4; i++) c[i] = reals();
+    for (int i = 0; i < 4; i++) r[i] = reals();
+    Bytes out = bytes();
+    uint64_t value = UINT64_MAX;
+    answer(uramsheg_feed_column(state.bytes, state.length, c[0].values, c[0].length, c[1].values, c[1].length, c[2].values, c[2].length, c[3].values,
+                                c[3].length, r[0].values, r[0].length, r[1].values, r[1].length, r[2].values, r[2].length, r[3].values, r[3].length,
+                                out.bytes, out.length, &value));
+    answer(value);
+    give(state.bytes, state.length);
+    for (int i = 0; i < 4; i++) {
+        give_reals(r[i]);
+        free(c[i].values);
+        free(r[i].values);
+    }
+    give(out.bytes, out.length);
+    free(state.bytes);
+    free(out.bytes);
+}
+
 static void set_check(void) {
     Bytes set = bytes();
     answer(uramsheg_set_check(set.bytes, set.length));
@@ -191,6 +232,8 @@ int main(void) {
         case 'h': downsample(); break;
         case 's': set_check(); break;
         case 'l': levels(); break;
+        case 'f': feed_start(); break;
+        case 'g': feed_column(); break;
         default: stop("no such request");
         }
         fflush(stdout);

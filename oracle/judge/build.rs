@@ -12,11 +12,12 @@ mod fixed_sets;
 mod substitutions;
 
 const PUBLISHED: [&str; 4] = ["scale_fit.rs", "reference.rs", "stream.rs", "blur.rs"];
-const DOCUMENT: [&str; 9] = [
+const DOCUMENT: [&str; 10] = [
     "admission.rs",
     "causes.rs",
     "counting.rs",
     "entries.rs",
+    "feed.rs",
     "here.rs",
     "levels.rs",
     "list.rs",
@@ -193,7 +194,7 @@ fn write_document(
             fs::write(&path, entry.applied(&sound).unwrap()).unwrap();
         }
         let name = file.trim_end_matches(".rs");
-        let seen = if ["levels.rs", "steps.rs"].contains(&file) {
+        let seen = if ["feed.rs", "levels.rs", "steps.rs"].contains(&file) {
             "pub"
         } else {
             "pub(crate)"

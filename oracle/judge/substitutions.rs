@@ -80,6 +80,8 @@ pub const SCALE_FIT: &[Substitution] = &[
     Call(".min(", ".min_here(", 4),
     Call(".clamp(", ".clamp_here(", 3),
     Call(".sum()", ".sum_here()", 1),
+    // A sample that no order byte of a good set names is NaN.
+    At("77.76+7 01daa173364a", "crate::here::Named(`old`)"),
     // Two functions shown to the rest of the crate.
     At("217.1+2 8df8623b6a7c", "pub(super) `old`"),
     At("338.1+2 5e52e0a61703", "pub(super) `old`"),
@@ -168,6 +170,8 @@ pub const REFERENCE: &[Substitution] = &[
                             `240.33+49 bea8d7e13f5e`
                         })",
     ),
+    // The one column that a feed judges.
+    At("214.24+21 3bf3f8eb063e", "crate::feed::judged_of(`old`)"),
     // Why a candidate is rejected.
     At(
         "235.26+29 eae6b9eb9211",

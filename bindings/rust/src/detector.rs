@@ -80,6 +80,51 @@ pub mod raw {
             half_cols: *mut u64,
         ) -> u32;
         pub fn uramsheg_set_check(set: *const u8, set_length: usize) -> u32;
+        pub fn uramsheg_feed_start(
+            set: *const u8,
+            set_length: usize,
+            peak: f32,
+            sigma: f32,
+            ratio: f32,
+            low: f32,
+            high: f32,
+            rows: usize,
+            cols: usize,
+            octave: usize,
+            ring0: *const f32,
+            ring0_length: usize,
+            ring1: *const f32,
+            ring1_length: usize,
+            ring2: *const f32,
+            ring2_length: usize,
+            ring3: *const f32,
+            ring3_length: usize,
+            state: *mut u8,
+            state_length: usize,
+        ) -> u32;
+        pub fn uramsheg_feed_column(
+            state: *mut u8,
+            state_length: usize,
+            column0: *const f32,
+            column0_length: usize,
+            column1: *const f32,
+            column1_length: usize,
+            column2: *const f32,
+            column2_length: usize,
+            column3: *const f32,
+            column3_length: usize,
+            ring0: *mut f32,
+            ring0_length: usize,
+            ring1: *mut f32,
+            ring1_length: usize,
+            ring2: *mut f32,
+            ring2_length: usize,
+            ring3: *mut f32,
+            ring3_length: usize,
+            out: *mut u8,
+            out_length: usize,
+            value: *mut u64,
+        ) -> u32;
     }
 }
 
@@ -97,7 +142,7 @@ pub struct Thresholds {
 
 impl Thresholds {
     /// A refusal of these thresholds says which of them are NaN; any other stays as it is.
-    fn told(self, refusal: Refusal) -> Refusal {
+    pub(crate) fn told(self, refusal: Refusal) -> Refusal {
         let all = [self.peak, self.sigma, self.ratio, self.low, self.high];
         match refusal {
             Refusal::Thresholds { .. } => Refusal::Thresholds {
@@ -118,7 +163,7 @@ pub struct Map<'a> {
 }
 
 /// An answer's number, with the value beside it, as a result.
-fn done<T>(number: u32, value: usize, answer: T) -> Result<T, Refusal> {
+pub(crate) fn done<T>(number: u32, value: usize, answer: T) -> Result<T, Refusal> {
     if number == 0 {
         return Ok(answer);
     }

@@ -3,6 +3,8 @@
 
 #[cfg(feature = "detector")]
 mod detector;
+#[cfg(feature = "detector")]
+mod feed;
 #[cfg(feature = "float")]
 pub mod float;
 mod missing;
@@ -17,6 +19,8 @@ pub use detector::{
     Map, Thresholds, check_set, correct, detect, downsample, four_levels, join, levels,
     octave_count, sized_spots, spots,
 };
+#[cfg(feature = "detector")]
+pub use feed::{FEED_BYTES, Feed, RING_COLUMNS, Spots, feed_column, feed_start};
 pub use missing::Missing;
 pub use refusal::Refusal;
 pub use spot::{SIZED_BYTES, SPOT_BYTES, SizedSpot, Spot};

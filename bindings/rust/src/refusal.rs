@@ -4,12 +4,12 @@ use crate::Missing;
 use std::fmt;
 
 /// Why a call was refused. Of the call's checks, in its order, the first that holds is answered: detection checks 1, 2, 3, 8, 4; the join 1, 4, 5 for the
-/// list's length, 5 for a record, 6; correction 4, 7; halving a level 1, 2, 6; making levels 1, 2, 3, 4, 6.
+/// list's length, 5 for a record, 6; correction 4, 7; halving a level 1, 2, 6; making levels 1, 2, 3, 4, 6; a feed's start 1, 3, 8, 4, 6; its column 9, 2, 6.
 #[derive(Clone, Copy, Debug, PartialEq, Eq)]
 pub enum Refusal {
     /// 1: rows or cols above 4,096.
     Size,
-    /// 2: a level, or the raw map, is not rows times cols long.
+    /// 2: a level, or the raw map, is not rows times cols long, or a feed's column not rows.
     Level,
     /// 3: the octave is above 5.
     Octave,
@@ -17,12 +17,14 @@ pub enum Refusal {
     Set,
     /// 5: the list is not a whole number of records (the index is then their number), or the record at the index is bad.
     Records { index: usize },
-    /// 6: the output, or one of the four, is shorter than needed.
+    /// 6: the output, or one of the four, or a feed's ring or state, is shorter than needed.
     Room,
     /// 7: the spot has no size, and why.
     NoSize(Missing),
     /// 8: a threshold is not a number. `nan` tells which of peak, sigma, ratio, low and high are NaN.
     Thresholds { nan: [bool; 5] },
+    /// 9: all of the feed's columns have come, or the state is none of a feed's.
+    Past,
 }
 
 /// The thresholds' names, in their order.
@@ -30,7 +32,7 @@ const NAMES: [&str; 5] = ["peak", "sigma", "ratio", "low", "high"];
 
 impl Refusal {
     /// The refusal with a number and the value that goes with it, as the C functions answer them; None for a number, or a cause beside 7, that is none of
-    /// theirs. Which threshold is NaN they do not say: `detect` sees it by those it was given.
+    /// theirs. Which threshold is NaN they do not say: `detect` and a feed's start see it by those they were given.
     pub fn from_number(number: u32, value: usize) -> Option<Refusal> {
         Some(match number {
             1 => Refusal::Size,
@@ -41,6 +43,7 @@ impl Refusal {
             6 => Refusal::Room,
             7 => Refusal::NoSize(Missing::from_number(value)?),
             8 => Refusal::Thresholds { nan: [false; 5] },
+            9 => Refusal::Past,
             _ => return None,
         })
     }
@@ -55,6 +58,7 @@ impl Refusal {
             Refusal::Room => 6,
             Refusal::NoSize(_) => 7,
             Refusal::Thresholds { .. } => 8,
+            Refusal::Past => 9,
         }
     }
 }
@@ -63,7 +67,10 @@ impl fmt::Display for Refusal {
     fn fmt(&self, f: &mut fmt::Formatter<'_>) -> fmt::Result {
         match self {
             Refusal::Size => write!(f, "rows or cols above 4096: cut the map into tiles"),
-            Refusal::Level => write!(f, "a level, or the raw map, is not rows * cols floats long"),
+            Refusal::Level => write!(
+                f,
+                "a level, or the raw map, is not rows * cols floats long, or a feed's column is not rows floats long"
+            ),
             Refusal::Octave => write!(f, "the octave is above 5"),
             Refusal::Set => write!(
                 f,
@@ -74,7 +81,10 @@ impl fmt::Display for Refusal {
                 f,
                 "the list is not a whole number of 40-byte records, or its record {index} is bad for this map"
             ),
-            Refusal::Room => write!(f, "the output is too short: lend a longer one"),
+            Refusal::Room => write!(
+                f,
+                "the output, or a feed's ring or state, is too short: lend a longer one"
+            ),
             Refusal::NoSize(why) => why.fmt(f),
             Refusal::Thresholds { nan } => {
                 let named = NAMES.iter().zip(nan).filter(|named| *named.1);
@@ -86,6 +96,10 @@ impl fmt::Display for Refusal {
                     names.join(", ")
                 )
             }
+            Refusal::Past => write!(
+                f,
+                "all cols of the feed have come, or its state is none of a feed's: start another feed for the next map"
+            ),
         }
     }
 }

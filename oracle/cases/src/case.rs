@@ -23,6 +23,36 @@ pub struct Raw {
     pub pixels: Vec<f32>,
 }
 
+/// What a feed of columns is started with, beside its ring and its state.
+#[derive(Clone, Debug)]
+pub struct Start {
+    pub record: Vec<u8>,
+    pub thresholds: [f32; 5],
+    pub rows: usize,
+    pub cols: usize,
+    pub octave: usize,
+}
+
+/// A feed: its start, none where the state is forged, and what its state and its ring hold before it.
+#[derive(Clone, Debug)]
+pub struct Feed {
+    pub start: Option<Start>,
+    pub state: Vec<u8>,
+    pub ring: Levels,
+}
+
+/// A column given to one of the feeds, with so many bytes of the state and so many floats of each slice of the ring lent; again with the next room, each
+/// byte filled with `fill` first, while it is refused for its room.
+#[derive(Clone, Debug)]
+pub struct Given {
+    pub feed: usize,
+    pub columns: Levels,
+    pub state: usize,
+    pub ring: [usize; 4],
+    pub rooms: Vec<usize>,
+    pub fill: u8,
+}
+
 /// One input to one function.
 #[derive(Clone, Debug)]
 pub enum Case {
@@ -69,6 +99,8 @@ pub enum Case {
     },
     /// The levels of a raw map, then detection on them, then the join of what it listed; the scene has no levels yet.
     FromRaw { scene: Scene, pixels: Vec<f32> },
+    /// Feeds started one after another, then columns given to them.
+    Fed { feeds: Vec<Feed>, given: Vec<Given> },
     /// An inner function on words.
     Inner {
         function: &'static str,

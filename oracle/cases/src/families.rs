@@ -2,6 +2,7 @@
 
 use crate::case::{Case, Scene};
 use crate::causes;
+use crate::feeds;
 use crate::homes;
 use crate::levels;
 use crate::limits;
@@ -16,7 +17,7 @@ use crate::turning;
 use crate::words::{self, FUNCTIONS};
 
 /// The families of cases. `inner` counts through the inner functions.
-pub const FAMILIES: [&str; 28] = [
+pub const FAMILIES: [&str; 31] = [
     "list",
     "detect",
     "join",
@@ -45,6 +46,9 @@ pub const FAMILIES: [&str; 28] = [
     "raw",
     "causes",
     "statistics",
+    "feeds",
+    "starts",
+    "forged",
 ];
 
 /// The case of a family with the given seed and number.
@@ -77,6 +81,9 @@ pub fn expand(family: &str, seed: u64, number: usize) -> Case {
         "raw" => levels::chain(random, number),
         "causes" => causes::correction(random, number),
         "statistics" => causes::statistic(random),
+        "feeds" => feeds::run(random, number),
+        "starts" => feeds::start(random, number),
+        "forged" => feeds::forged(random, number),
         "overshoot" => overshoot::correction(random),
         "mirrored" => mirrored::correction(random),
         "cancelling" => rounding::cancelling(random),
@@ -163,7 +170,7 @@ pub fn scene(random: &mut Random) -> Scene {
 }
 
 /// A map of these sides under a set, with thresholds and an octave.
-fn under(random: &mut Random, set: Set, rows: usize, cols: usize) -> Scene {
+pub(crate) fn under(random: &mut Random, set: Set, rows: usize, cols: usize) -> Scene {
     let levels = maps::any(random, &set, rows, cols);
     let thresholds = thresholds(random, &set);
     Scene {

@@ -4,6 +4,7 @@ pub mod case;
 pub mod causes;
 pub mod edges;
 pub mod families;
+pub mod feeds;
 pub mod homes;
 pub mod levels;
 mod limits;
@@ -18,7 +19,7 @@ pub mod sets;
 mod turning;
 pub mod words;
 
-pub use case::{Case, Raw, Scene};
+pub use case::{Case, Feed, Given, Raw, Scene, Start};
 pub use edges::{Knob, turn};
 pub use families::{FAMILIES, expand};
 pub use sets::Set;

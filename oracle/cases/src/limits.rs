@@ -5,7 +5,7 @@ use crate::families::{ROOMS, damage, damaged_input, lively};
 use crate::random::Random;
 
 /// NaN patterns: quiet and signalling, with either sign, and with every digit set.
-const NANS: [u32; 6] = [
+pub(crate) const NANS: [u32; 6] = [
     0x7fc0_0000,
     0x7f80_0001,
     0xffc0_0000,

@@ -2,9 +2,9 @@
 
 use cases::levels::{FILL, TAPS, WIDEST};
 use cases::records::SPOT;
-use cases::{Raw, Scene, Set};
-use judge::{Answer, Kernel, Logs, Map, Pass, RawMap, Rules, inner, levels, steps};
-use subject::{Correction, Reply, Subject};
+use cases::{Raw, Scene, Set, Start};
+use judge::{Answer, Kernel, Logs, Map, Pass, RawMap, Rules, feed, inner, levels, steps};
+use subject::{Correction, Fed, Lent, Reply, Subject};
 
 /// The judge under given rules, by its reference or its streaming pass.
 #[derive(Clone, Copy)]
@@ -212,6 +212,35 @@ impl Subject for Judge {
         out: &mut [Vec<f32>; 4],
     ) -> Option<Result<(), u32>> {
         Some(judge::levels(record, raw_of(raw), out))
+    }
+
+    fn feed_start(
+        &mut self,
+        start: &Start,
+        ring: [&[f32]; 4],
+        state: &mut [u8],
+    ) -> Option<Result<(), u32>> {
+        let given = feed::Start {
+            record: &start.record,
+            thresholds: start.thresholds,
+            rows: start.rows,
+            cols: start.cols,
+            octave: start.octave,
+            ring: ring.map(<[f32]>::len),
+        };
+        let number = feed::start(&given, state);
+        Some(if number == 0 { Ok(()) } else { Err(number) })
+    }
+
+    fn feed_column(&mut self, columns: [&[f32]; 4], lent: Lent<'_>) -> Option<Fed> {
+        let Lent { state, ring, out } = lent;
+        let (number, value) = feed::column(feed::Call {
+            state,
+            columns,
+            ring,
+            out,
+        });
+        Some(Fed { number, value })
     }
 
     fn inner(&mut self, function: &str, set: &Set, words: &[f32]) -> Option<Vec<f32>> {

@@ -2,11 +2,18 @@
 
 #[cfg(feature = "archive")]
 mod archived;
+#[cfg(feature = "archive")]
+mod fed;
+#[cfg(feature = "archive")]
+mod forged;
 mod judged;
+#[cfg(feature = "archive")]
+mod lanes;
 mod own;
 mod plan;
 #[cfg(feature = "probe")]
 mod probed;
+mod runs;
 mod search;
 #[cfg(feature = "archive")]
 mod soak;
@@ -14,7 +21,7 @@ mod soak;
 mod steps;
 mod tally;
 
-use cases::{Knob, expand, turn};
+use cases::{Case, Knob, expand, turn};
 use judge::Pass;
 use judged::Judge;
 use std::process::ExitCode;
@@ -28,6 +35,8 @@ const USE: &str = "use: compare own [SEED [TIMES]]
      compare tally [SEED [TIMES]]
      compare run SEED TIMES PROGRAM [ARGUMENTS]
      compare archive SEED TIMES               (built with the feature `archive`; 2,000,000 corrections a time beside the families)
+     compare fed SEED TIMES                   (built with the feature `archive`; every map of the families, column by column)
+     compare forged SEED TIMES                (built with the feature `archive`; 2,000,000 calls a time on forged states)
      compare soak SEED MAPS [FIRST]           (built with the feature `archive`; from the map of number FIRST on)
      compare probe SEED CASES_A_FUNCTION      (built with the feature `probe`)
      compare steps SEED [EVERY]               (built with the feature `probe`; every 256th pattern where EVERY is not given)
@@ -38,6 +47,10 @@ const USE: &str = "use: compare own [SEED [TIMES]]
 
 /// The seed of the bounded run and of the stored list.
 const SEED: u64 = 1;
+
+/// Calls on forged states in the bounded run.
+#[cfg(feature = "archive")]
+const FORGED: usize = 2_000_000;
 
 fn main() -> ExitCode {
     let arguments: Vec<String> = std::env::args().skip(1).collect();
@@ -56,6 +69,10 @@ fn main() -> ExitCode {
         }
         #[cfg(feature = "archive")]
         Some("archive") => archive(number(1, SEED), number(2, 1) as usize),
+        #[cfg(feature = "archive")]
+        Some("fed") => fed::run(number(1, SEED), number(2, 1) as usize),
+        #[cfg(feature = "archive")]
+        Some("forged") => forged::run(number(1, SEED), number(2, 1) as usize * FORGED),
         #[cfg(feature = "archive")]
         Some("soak") if words.len() > 2 => soak::run(
             number(1, SEED),
@@ -91,6 +108,13 @@ fn own(seed: u64, times: usize) -> bool {
     sound &= own::blurs(seed, times);
     sound &= own::raw(seed, times);
     sound &= own::lost(seed, times);
+    sound &= runs::narrowed(seed, times);
+    sound &= runs::lists(
+        "feeds-list-what-detection-lists",
+        seed,
+        times,
+        &mut Judge::sound(),
+    );
     own::logarithms(seed, times);
     own::taps(seed, times);
     sound
@@ -104,7 +128,12 @@ fn tally(seed: u64, times: usize) -> bool {
     for family in plan::families() {
         plan::each(family, seed, times, |one| {
             judge::reset_returns();
-            let sound = answer(&mut judge, &one.case);
+            let sound = match &one.case {
+                Case::Fed { .. } => {
+                    answer(tally.feeds.entry(family.into()).or_default(), &one.case)
+                }
+                case => answer(&mut judge, case),
+            };
             tally.add_returns(&judge::returns());
             tally.add_kind(family, &one.case);
             if let Some(sound) = sound {
@@ -133,6 +162,8 @@ fn tally(seed: u64, times: usize) -> bool {
     let untaken = (!untaken.is_empty()).then(|| format!("no case takes {untaken:?}"));
     let apart = tally.pairs_not_reached();
     let apart = (!apart.is_empty()).then(|| format!("no edge parts {apart:?}"));
+    let unfed = tally.answers_not_reached();
+    let unfed = (!unfed.is_empty()).then(|| format!("no feed answers {unfed:?}"));
     own::told(
         "every-gate-rejects",
         fault,
@@ -156,6 +187,11 @@ fn tally(seed: u64, times: usize) -> bool {
             "every-two-answers-meet-at-an-edge",
             apart,
             "a size, causes 1 and 2; a statistic, causes 1 to 3",
+        )
+        & own::told(
+            "every-answer-of-a-feed-is-reached",
+            unfed,
+            "a start's 0, 1, 3, 4, 6 and 8; a column's 0, 2, 6 and 9",
         )
 }
 
@@ -196,10 +232,17 @@ fn run(seed: u64, times: usize, subject: &mut dyn Subject) -> bool {
     all_sound
 }
 
-/// The archive against the judge: the families, the octave count at every side, and corrections by the million.
+/// The archive against the judge: the families, the runs of feeds as lists, the octave count at every side, and corrections by the million.
 #[cfg(feature = "archive")]
 fn archive(seed: u64, times: usize) -> bool {
-    run(seed, times, &mut subject::archive::Archive::default())
+    let mut archive = subject::archive::Archive::default();
+    run(seed, times, &mut archive)
+        & runs::lists(
+            "archive-feeds-list-what-detection-lists",
+            seed,
+            times,
+            &mut archive,
+        )
         & archived::octaves()
         & archived::corrections(seed, 2_000_000 * times)
 }

@@ -18,7 +18,7 @@ pub fn told(name: &str, fault: Option<String>, seen: &str) -> bool {
 }
 
 /// The whole answer of one pass: its reply and every record.
-fn whole(mut pass: Judge, scene: &Scene) -> (Option<Reply>, Vec<u8>) {
+pub fn whole(mut pass: Judge, scene: &Scene) -> (Option<Reply>, Vec<u8>) {
     let side = |side: usize| side.min(4096);
     let mut out = vec![0x3cu8; 2 * SPOT * side(scene.rows) * side(scene.cols)];
     let reply = pass.detect(scene, &mut out);
@@ -29,7 +29,7 @@ fn whole(mut pass: Judge, scene: &Scene) -> (Option<Reply>, Vec<u8>) {
 }
 
 /// The scene of a case that detects, if it is one.
-fn scene_of(family: &str, seed: u64, one: &plan::Numbered) -> Option<Scene> {
+pub fn scene_of(family: &str, seed: u64, one: &plan::Numbered) -> Option<Scene> {
     match (&one.case, one.knob) {
         (Case::Detect { scene, .. } | Case::Sized { scene }, _) => Some(scene.clone()),
         (_, Some(knob)) if family == "edge" => Some(edges::turned_scene(seed, one.number, knob)),

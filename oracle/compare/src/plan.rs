@@ -9,7 +9,7 @@ use subject::answer;
 use subject::stored::{Entry, Kept, Section};
 
 /// Cases of a family in a bounded run and in the stored list.
-pub const COUNTS: [(&str, usize); 27] = [
+pub const COUNTS: [(&str, usize); 30] = [
     ("list", 3000),
     ("detect", 1800),
     ("join", 1200),
@@ -37,6 +37,9 @@ pub const COUNTS: [(&str, usize); 27] = [
     ("raw", 300),
     ("causes", 4000),
     ("statistics", 4000),
+    ("feeds", 640),
+    ("starts", 32 * 6 * 5),
+    ("forged", 3600),
 ];
 
 /// Searches one case's edges: its seed, its number, and how often to try.

@@ -1,7 +1,9 @@
-//! The soak: detection's list on odd maps, the archive's against the judge's.
+//! The soak: detection's list on odd maps, and the feed's of the same, the archive's against the judge's.
 
+use crate::fed;
 use crate::judged::{Judge, from_judge};
-use crate::own::told;
+use crate::lanes::Lanes;
+use crate::own::{told, whole};
 use cases::odd::{ROWS, WALK, WAYS, detection, tightened};
 use cases::records::SPOT;
 use cases::{Case, Set};
@@ -65,14 +67,23 @@ impl Seen {
 pub fn run(seed: u64, maps: usize, first: usize) -> bool {
     let fixed = 0..judge::fixed::NAMES.len();
     let fixed: Vec<Set> = fixed.map(|k| from_judge(&judge::fixed::set(k))).collect();
-    let mut archive = Archive::default();
+    let (mut archive, mut lanes) = (Archive::default(), Lanes::default());
     let mut all = WAYS.map(|_| Seen::default());
+    let mut fed = fed::Seen::default();
     for number in first..first + maps {
         let (way, case) = detection(seed, number, &fixed);
         let seen = &mut all[way];
         let name = format!("seed {seed}, map {number}");
         let sound = seen.compare(&mut archive, &case, &name);
-        let spots: Vec<&[u8]> = seen.count(&sound).chunks_exact(SPOT).collect();
+        let list = seen.count(&sound);
+        if let Case::Detect { scene, room, .. } = &case {
+            // a list that fills its room may be longer
+            let full = list.len() == *room;
+            let whole = full.then(|| whole(Judge::sound(), scene).1);
+            let list = whole.as_deref().unwrap_or(list);
+            fed.feed(&mut lanes, &name, (seed, number as u64), scene, list);
+        }
+        let spots: Vec<&[u8]> = list.chunks_exact(SPOT).collect();
         if let Some(spot) = spots.get(number % spots.len().max(1)) {
             let name = format!("{name}, just passed by a spot");
             seen.compare(&mut archive, &tightened(&case, spot), &name);
@@ -84,6 +95,7 @@ pub fn run(seed: u64, maps: usize, first: usize) -> bool {
     for (seen, way) in all.into_iter().zip(WAYS) {
         sound &= seen.maps == 0 || seen.tell(way);
     }
+    sound &= fed.tell("soak-fed");
     if maps >= ROWS * WALK {
         let hollow = (!quiet.is_empty()).then(|| format!("no spot in {quiet:?}"));
         let seen = format!("each number of rows from 1 to {ROWS}, spots in each kind of map");

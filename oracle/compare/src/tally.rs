@@ -6,10 +6,10 @@ use crate::search::{Kind, kind};
 use cases::causes::STATISTIC;
 use cases::levels::TAPS;
 use cases::records::SPOT;
-use cases::{Case, Scene};
+use cases::{Case, Scene, Start};
 use judge::{Logs, levels};
 use std::collections::BTreeMap;
-use subject::made_of;
+use subject::{Fed, Lent, Subject, made_of};
 
 /// Counts over a run.
 #[derive(Default)]
@@ -26,6 +26,52 @@ pub struct Tally {
     kinds: BTreeMap<(&'static str, Kind), usize>,
     pairs: BTreeMap<(&'static str, [Kind; 2]), usize>,
     side: Option<Kind>,
+    pub feeds: BTreeMap<String, Fedness>,
+}
+
+/// What the feeds of a family answered: starts and columns by their number, and the columns that listed records, with how many.
+#[derive(Default)]
+pub struct Fedness {
+    starts: [usize; 10],
+    columns: [usize; 10],
+    listing: usize,
+    records: usize,
+    both: usize,
+}
+
+/// The judge's feed, counted.
+impl Subject for Fedness {
+    fn name(&self) -> String {
+        Judge::sound().name()
+    }
+
+    fn feed_start(
+        &mut self,
+        start: &Start,
+        ring: [&[f32]; 4],
+        state: &mut [u8],
+    ) -> Option<Result<(), u32>> {
+        let answer = Judge::sound().feed_start(start, ring, state)?;
+        self.starts[answer.err().unwrap_or(0) as usize] += 1;
+        Some(answer)
+    }
+
+    fn feed_column(&mut self, columns: [&[f32]; 4], lent: Lent<'_>) -> Option<Fed> {
+        let Lent { state, ring, out } = lent;
+        let written = Lent {
+            state,
+            ring,
+            out: &mut *out,
+        };
+        let fed = Judge::sound().feed_column(columns, written)?;
+        self.columns[fed.number as usize] += 1;
+        let records = &out[..SPOT * fed.value as usize];
+        let keys: Vec<&[u8]> = records.chunks_exact(SPOT).map(|one| &one[32..36]).collect();
+        self.listing += usize::from(!keys.is_empty());
+        self.records += keys.len();
+        self.both += keys.windows(2).filter(|pair| pair[0] == pair[1]).count();
+        Some(fed)
+    }
 }
 
 /// The returns that no input takes: crates/unreached has the proof.
@@ -102,6 +148,26 @@ impl Tally {
             }
         }
         all.retain(|pair| !self.pairs.contains_key(pair));
+        all
+    }
+
+    /// The answers, of a start and of a column, that no feed has.
+    pub fn answers_not_reached(&self) -> Vec<String> {
+        let mut all = Vec::new();
+        for (of, numbers) in [
+            ("start", &[0, 1, 3, 4, 6, 8][..]),
+            ("column", &[0, 2, 6, 9][..]),
+        ] {
+            for &number in numbers {
+                let count = |fed: &Fedness| match of {
+                    "start" => fed.starts[number],
+                    _ => fed.columns[number],
+                };
+                if self.feeds.values().map(count).sum::<usize>() == 0 {
+                    all.push(format!("{of} {number}"));
+                }
+            }
+        }
         all
     }
 
@@ -207,6 +273,23 @@ impl Tally {
         println!("levels by their radius, 0 to 16: {:?}", self.radii);
         for (gate, count) in judge::counts() {
             println!("rejected, {gate}: {count}");
+        }
+        for (family, fed) in &self.feeds {
+            let told = |answers: &[usize; 10]| {
+                let all = answers.iter().enumerate().filter(|answer| *answer.1 > 0);
+                let all: Vec<String> = all
+                    .map(|(number, count)| format!("{number}: {count}"))
+                    .collect();
+                all.join(", ")
+            };
+            println!("{family}, starts by their answer: {}", told(&fed.starts));
+            println!(
+                "{family}, columns by their answer: {}; {} list {} records, {} pixels with both",
+                told(&fed.columns),
+                fed.listing,
+                fed.records,
+                fed.both
+            );
         }
         for (place, count) in &self.returns {
             println!("returns, {place}: {count}");

@@ -45,16 +45,20 @@ impl Set {
         if record.len() != 528 || record[525..] != [0, 0, 0] {
             return None;
         }
+        Some(Set::unchecked(record)).filter(Set::good)
+    }
+
+    /// The set of a record's 528 bytes, good or not.
+    pub fn unchecked(record: &[u8]) -> Set {
         let float = |at: usize| f32::from_le_bytes(record[4 * at..4 * at + 4].try_into().unwrap());
-        let set = Set {
+        Set {
             sigmas: core::array::from_fn(float),
             scale: core::array::from_fn(|k| float(4 + k)),
             geometry: core::array::from_fn(|k| float(16 + k)),
             spatial: core::array::from_fn(|k| float(28 + k)),
             numbers: core::array::from_fn(|k| float(118 + k)),
             order: core::array::from_fn(|k| record[516 + k]),
-        };
-        set.good().then_some(set)
+        }
     }
 }
 

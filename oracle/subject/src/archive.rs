@@ -2,8 +2,8 @@
 //! that page before every buffer and then behind it, and both must answer and leave the same.
 
 use crate::guarded::{Room, Side};
-use crate::{Correction, Reply, Subject};
-use cases::{Raw, Scene, Set};
+use crate::{Correction, Fed, Lent, Reply, Subject};
+use cases::{Raw, Scene, Set, Start};
 use core::fmt::Debug;
 use uramsheg::{Map, Refusal, Thresholds, raw};
 
@@ -15,6 +15,116 @@ pub struct Archive {
     list: Room,
     raw: Room,
     out: Room,
+    feeds: [FeedRooms; 2],
+}
+
+/// What a feed's calls are lent on one side of the page.
+#[derive(Default)]
+struct FeedRooms {
+    state: Room,
+    columns: [Room; 4],
+    ring: [Room; 4],
+    out: Room,
+}
+
+impl FeedRooms {
+    /// A call on copies beside the page, and what it leaves: with the page before them by the wrapper, with the page behind them by the C function.
+    fn call(&mut self, side: Side, columns: [&[f32]; 4], lent: &Lent<'_>) -> (Fed, Lent<'_>) {
+        let ring = lent.ring.each_ref().map(|slice| &**slice);
+        let given = lend_four(&mut self.columns, side, columns);
+        let mut left = Lent {
+            state: self.state.lend(side, lent.state),
+            ring: lend_four(&mut self.ring, side, ring),
+            out: self.out.lend(side, lent.out),
+        };
+        let shown = given.each_ref().map(|column| &**column);
+        let slices = left.ring.each_mut().map(|slice| &mut **slice);
+        let fed = match side {
+            Side::Before => wrapped_column(left.state, shown, slices, left.out),
+            Side::Behind => raw_column(left.state, shown, slices, left.out),
+        };
+        assert!(
+            four_bytes(&given) == columns.map(bytes),
+            "a given column was written"
+        );
+        (fed, left)
+    }
+}
+
+/// Four buffers beside the page.
+pub fn lend_four<'a>(
+    rooms: &'a mut [Room; 4],
+    side: Side,
+    four: [&[f32]; 4],
+) -> [&'a mut [f32]; 4] {
+    let mut four = four.iter();
+    rooms.each_mut().map(|room| {
+        let values = four.next().map_or(&[][..], |values| values);
+        room.lend(side, values)
+    })
+}
+
+/// The floats' bytes, four buffers' worth.
+fn four_bytes<'a>(four: &'a [&mut [f32]; 4]) -> [&'a [u8]; 4] {
+    four.each_ref().map(|values| bytes(values))
+}
+
+/// The C function's own answer, its value another number before the call.
+fn raw_column(
+    state: &mut [u8],
+    columns: [&[f32]; 4],
+    ring: [&mut [f32]; 4],
+    out: &mut [u8],
+) -> Fed {
+    let [c0, c1, c2, c3] = columns;
+    let [r0, r1, r2, r3] = ring;
+    let mut value = u64::MAX;
+    // SAFETY: each pointer goes with its own slice's length, and what is written overlaps nothing.
+    let number = unsafe {
+        raw::uramsheg_feed_column(
+            state.as_mut_ptr(),
+            state.len(),
+            c0.as_ptr(),
+            c0.len(),
+            c1.as_ptr(),
+            c1.len(),
+            c2.as_ptr(),
+            c2.len(),
+            c3.as_ptr(),
+            c3.len(),
+            r0.as_mut_ptr(),
+            r0.len(),
+            r1.as_mut_ptr(),
+            r1.len(),
+            r2.as_mut_ptr(),
+            r2.len(),
+            r3.as_mut_ptr(),
+            r3.len(),
+            out.as_mut_ptr(),
+            out.len(),
+            &mut value,
+        )
+    };
+    Fed { number, value }
+}
+
+/// The wrapper's answer; beside a refusal it hands on no value.
+fn wrapped_column(
+    state: &mut [u8],
+    columns: [&[f32]; 4],
+    ring: [&mut [f32]; 4],
+    out: &mut [u8],
+) -> Fed {
+    match uramsheg::feed_column(state, columns, ring, out) {
+        Ok(count) => Fed {
+            number: 0,
+            value: count as u64,
+        },
+        Err(refusal) => Fed {
+            number: refusal.number(),
+            value: 0,
+        },
+    }
 }
 
 fn reply(answer: Result<usize, Refusal>) -> Reply {
@@ -212,5 +322,58 @@ impl Subject for Archive {
             level.copy_from_slice(made);
         }
         Some(answer)
+    }
+
+    fn feed_start(
+        &mut self,
+        start: &Start,
+        ring: [&[f32]; 4],
+        state: &mut [u8],
+    ) -> Option<Result<(), u32>> {
+        let [peak, sigma, ratio, low, high] = start.thresholds;
+        let thresholds = Thresholds {
+            peak,
+            sigma,
+            ratio,
+            low,
+            high,
+        };
+        let (rows, cols, octave) = (start.rows, start.cols, start.octave);
+        Some(both_sides(state, |side, left| {
+            let set = self.set.lend(side, &start.record);
+            let lent = lend_four(&mut self.levels, side, ring);
+            let room = self.out.lend(side, left);
+            let slices = lent.each_ref().map(|slice| &**slice);
+            let answer = uramsheg::feed_start(set, thresholds, rows, cols, octave, slices, room);
+            assert!(
+                four_bytes(&lent) == ring.map(bytes),
+                "a start wrote the ring"
+            );
+            left.copy_from_slice(room);
+            answer.map_err(Refusal::number)
+        }))
+    }
+
+    fn feed_column(&mut self, columns: [&[f32]; 4], lent: Lent<'_>) -> Option<Fed> {
+        let [before, behind] = &mut self.feeds;
+        let one = before.call(Side::Before, columns, &lent);
+        let other = behind.call(Side::Behind, columns, &lent);
+        let (fed, left) = one;
+        assert_eq!(
+            fed, other.0,
+            "the answer depends on where the buffers stand"
+        );
+        assert!(
+            left.state == other.1.state
+                && four_bytes(&left.ring) == four_bytes(&other.1.ring)
+                && left.out == other.1.out,
+            "what is written depends on where the buffers stand"
+        );
+        lent.state.copy_from_slice(left.state);
+        lent.out.copy_from_slice(left.out);
+        for (slice, left) in lent.ring.into_iter().zip(left.ring) {
+            slice.copy_from_slice(left);
+        }
+        Some(fed)
     }
 }

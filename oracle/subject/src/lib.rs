@@ -1,7 +1,7 @@
 //! What is under test, behind one trait, and its answers as plain bytes.
 
 use cases::records::{SIZED, SPOT};
-use cases::{Case, Raw, Scene, Set};
+use cases::{Case, Feed, Given, Raw, Scene, Set, Start};
 
 #[cfg(feature = "archive")]
 pub mod archive;
@@ -25,6 +25,20 @@ pub enum Reply {
 pub struct Correction {
     pub size: Result<f32, u32>,
     pub cause: u8,
+}
+
+/// An answer of a feed's column: 0 or a refusal's number, and the value beside it.
+#[derive(Clone, Copy, Debug, PartialEq, Eq)]
+pub struct Fed {
+    pub number: u32,
+    pub value: u64,
+}
+
+/// What a feed's column is lent, to be written.
+pub struct Lent<'a> {
+    pub state: &'a mut [u8],
+    pub ring: [&'a mut [f32]; 4],
+    pub out: &'a mut [u8],
 }
 
 /// One implementation; a function it does not offer answers None.
@@ -96,6 +110,21 @@ pub trait Subject {
         None
     }
 
+    /// A feed's start on a ring, which it never writes, and a lent state: done, or a refusal number.
+    fn feed_start(
+        &mut self,
+        _start: &Start,
+        _ring: [&[f32]; 4],
+        _state: &mut [u8],
+    ) -> Option<Result<(), u32>> {
+        None
+    }
+
+    /// A feed's column.
+    fn feed_column(&mut self, _columns: [&[f32]; 4], _lent: Lent<'_>) -> Option<Fed> {
+        None
+    }
+
     /// An inner function on words: a bool is 1.0 or 0.0, an absent number is no word, an absent statistic minus the number of its cause.
     fn inner(&mut self, _function: &str, _set: &Set, _words: &[f32]) -> Option<Vec<f32>> {
         None
@@ -125,6 +154,7 @@ pub fn answer(subject: &mut dyn Subject, case: &Case) -> Option<Vec<u8>> {
         }),
         Case::Levels { .. } => levelled(subject, case),
         Case::FromRaw { scene, pixels } => from_raw(subject, scene, pixels),
+        Case::Fed { feeds, given } => fed(subject, feeds, given),
         Case::Inner {
             function,
             set,
@@ -210,6 +240,71 @@ fn levelled(subject: &mut dyn Subject, case: &Case) -> Option<Vec<u8>> {
     };
     bytes.extend(out.iter().flat_map(|level| word_bytes(level, false)));
     Some(bytes)
+}
+
+/// Feeds started, then columns given to them: of each start the reply and the state, of each call the reply, the state, the ring and the output.
+fn fed(subject: &mut dyn Subject, feeds: &[Feed], given: &[Given]) -> Option<Vec<u8>> {
+    let mut feeds = feeds.to_vec();
+    let mut bytes = Vec::new();
+    for feed in &mut feeds {
+        if let Some(start) = &feed.start {
+            let ring = feed.ring.each_ref().map(Vec::as_slice);
+            bytes.extend(match subject.feed_start(start, ring, &mut feed.state)? {
+                Ok(()) => b"done:".to_vec(),
+                Err(number) => format!("refused {number}:").into_bytes(),
+            });
+            bytes.extend(&feed.state);
+        }
+    }
+    for one in given {
+        give(subject, &mut feeds[one.feed], one, &mut bytes)?;
+    }
+    Some(bytes)
+}
+
+/// A column, again with the next room while it is refused for its room.
+fn give(
+    subject: &mut dyn Subject,
+    feed: &mut Feed,
+    given: &Given,
+    bytes: &mut Vec<u8>,
+) -> Option<()> {
+    for &room in &given.rooms {
+        let mut out = vec![given.fill; room];
+        let fed = take_column(subject, feed, given, &mut out)?;
+        bytes.extend(match fed {
+            Fed { number: 0, value } => format!("done {value}:").into_bytes(),
+            Fed { number, value: 0 } => format!("refused {number}:").into_bytes(),
+            Fed { number, value } => format!("refused {number} with {value}:").into_bytes(),
+        });
+        bytes.extend(&feed.state);
+        let pixels = feed.ring.iter().flatten();
+        bytes.extend(pixels.flat_map(|pixel| pixel.to_le_bytes()));
+        bytes.extend(&out);
+        if fed.number != 6 {
+            break;
+        }
+    }
+    Some(())
+}
+
+/// One call on as much of the feed's state and ring as it is lent.
+pub fn take_column(
+    subject: &mut dyn Subject,
+    feed: &mut Feed,
+    given: &Given,
+    out: &mut [u8],
+) -> Option<Fed> {
+    let mut lengths = given.ring.iter();
+    let lent = Lent {
+        state: &mut feed.state[..given.state],
+        ring: feed.ring.each_mut().map(|slice| {
+            let length = lengths.next().map_or(0, |&length| length);
+            &mut slice[..length]
+        }),
+        out,
+    };
+    subject.feed_column(given.columns.each_ref().map(Vec::as_slice), lent)
 }
 
 /// Levels made of a raw map, then detection on them and the join.

@@ -1,7 +1,7 @@
 //! The detector's archive of another processor: `answerer` linked with it, run as a process that answers call by call over a pipe.
 
-use crate::{Correction, Reply, Subject};
-use cases::{Raw, Scene, Set};
+use crate::{Correction, Fed, Lent, Reply, Subject};
+use cases::{Raw, Scene, Set, Start};
 use std::io::{BufReader, BufWriter, Read, Write};
 use std::process::{Child, ChildStdin, ChildStdout, Command, Stdio};
 
@@ -205,5 +205,34 @@ impl Subject for Piped {
         self.floats(&raw.pixels);
         out.iter().for_each(|level| self.floats(level));
         Some(self.answer(|piped| out.iter_mut().for_each(|level| piped.written(level))))
+    }
+
+    fn feed_start(
+        &mut self,
+        start: &Start,
+        ring: [&[f32]; 4],
+        state: &mut [u8],
+    ) -> Option<Result<(), u32>> {
+        self.send(b"f");
+        self.bytes(&start.record);
+        self.patterns(&start.thresholds);
+        self.numbers(&[start.rows, start.cols, start.octave]);
+        ring.iter().for_each(|slice| self.floats(slice));
+        self.bytes(state);
+        Some(self.answer(|piped| piped.read(state)))
+    }
+
+    fn feed_column(&mut self, columns: [&[f32]; 4], lent: Lent<'_>) -> Option<Fed> {
+        self.send(b"g");
+        self.bytes(lent.state);
+        columns.iter().for_each(|column| self.floats(column));
+        lent.ring.iter().for_each(|slice| self.floats(slice));
+        self.bytes(lent.out);
+        let number = self.next() as u32;
+        let value = self.next() as u64;
+        self.read(lent.state);
+        lent.ring.into_iter().for_each(|slice| self.written(slice));
+        self.read(lent.out);
+        Some(Fed { number, value })
     }
 }

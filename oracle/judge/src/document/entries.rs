@@ -14,7 +14,7 @@ fn refused(number: u32) -> Answer {
 }
 
 /// A NaN, of any pattern, among the five.
-fn any_nan(thresholds: Thresholds) -> bool {
+pub fn any_nan(thresholds: Thresholds) -> bool {
     let Thresholds {
         peak,
         sigma,

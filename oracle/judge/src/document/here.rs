@@ -171,3 +171,15 @@ pub trait SumByRules: Iterator<Item = f32> + Sized {
 }
 
 impl<I: Iterator<Item = f32>> SumByRules for I {}
+
+/// Samples by the order bytes; one that no byte of a good set names is NaN.
+pub struct Named<'a>(pub &'a [f32; 9]);
+
+impl core::ops::Index<usize> for Named<'_> {
+    type Output = f32;
+
+    #[inline]
+    fn index(&self, name: usize) -> &f32 {
+        self.0.get(name).unwrap_or(&f32::NAN)
+    }
+}
