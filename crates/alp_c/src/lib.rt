@@ -1,5 +1,6 @@
 // The C face of the detector: thin, each answer as a number and a value.
 mod correction; // correction.rt: the correction
+mod feeding; // feeding.rt: the feed of columns
 mod octaves; // octaves.rt: the octave count, and a level halved
 mod raw; // raw.rt: the levels of a raw map
 mod sized; // sized.rt: the join
@@ -9,6 +10,8 @@ ghost use Rattle.tables.specs.Refusal.{readSetOf};
 ghost use Rattle.alp_c.specs.Face.{packed, left, thresholdsOf, detectFace, checkFace};
 use alp::Answer;
 pub use correction::uramsheg_correct;
+pub use feeding::uramsheg_feed_column;
+pub use feeding::uramsheg_feed_start;
 pub use octaves::uramsheg_downsample;
 pub use octaves::uramsheg_octave_count;
 pub use raw::uramsheg_levels;

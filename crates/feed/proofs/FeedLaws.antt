@@ -2,7 +2,7 @@
 use Prim.Native.Nat.{ℕ, _+_, _-_, _*_, _≤_, _<_}
 use native.Mathlib.Nat.{zero-add}
 use native.Mathlib.Omega.{arith}
-use mathlib.Core.Path.{_≡_, sym}
+use mathlib.Core.Path.{_≡_, refl, sym}
 use mathlib.Core.Bool.{Bool, true, false, not, _||_}
 use mathlib.Core.List.{List}
 use lib.Dec.{ltb, leb, eqb}
@@ -10,7 +10,8 @@ use lib.ListN.{length}
 use lib.Ieee.{Float}
 use borrow.Author.Tests.{lt-ltb, le-ltb, ltb-false, leb-true, leb-false, eqb-true, not-false}
 use Rattle.float.proofs.Bools.{neither}
-use Rattle.tables.specs.declared.Checked.the-variants.{Fine}
+use Rattle.tables.specs.declared.Checked.{Checked}
+use Rattle.tables.specs.declared.Checked.the-variants.{Fine, Bad}
 use Rattle.tables.specs.declared.Set.{Set}
 use Rattle.tables.specs.declared.Thresholds.{Thresholds}
 use Rattle.tables.specs.declared.Refusal.the-variants.{Room}
@@ -25,7 +26,7 @@ use Rattle.feed.specs.declared.Answer.the-variants.{Taken}
 use Rattle.samples.specs.Four.{Four, fourOf}
 use Rattle.feed.specs.Ring.{columnSpots, judgedSpots, kept}
 use Rattle.feed.specs.Lent.{Roomy, Long, heightOf}
-use Rattle.feed.specs.Feed.{after, past, ringCheck, startChecks, cramped, columnChecks, refused, next, fedBy, outputOf}
+use Rattle.feed.specs.Feed.{after, past, ringCheck, startChecks, startedBy, startOf, cramped, columnChecks, refused, next, fedBy, columnOf, outputOf}
 use Rattle.feed.proofs.SpotsLaws.{judged-height}
 
 -- what a test that failed says
@@ -114,3 +115,21 @@ unfolding startChecks firstOf
 octave-most set th rows cols octave n0 n1 n2 n3 h =
     let a = unless-fine (sidesCheck rows cols .holds) _ _ h in
     ltb-false 5 octave (unless-fine (octaveCheck octave .holds) _ _ (a .1) .0)
+
+-- what start answers is the first of its checks that holds
+pub start-answer : (set : Set) (th : Thresholds) (rows cols octave n0 n1 n2 n3 : ℕ) → startOf set th rows cols octave n0 n1 n2 n3 .answer ≡ firstOf (startChecks set th rows cols octave n0 n1 n2 n3)
+unfolding startOf startedBy
+start-answer set th rows cols octave n0 n1 n2 n3 = go (firstOf (startChecks set th rows cols octave n0 n1 n2 n3))
+  where
+    go : (w : Checked) → startedBy w set th rows cols octave .answer ≡ w
+    go (Bad r) = refl
+    go Fine = refl
+
+-- a column that is taken passed all its checks
+pub taken-passed : (s : State) (given ring : Four) (out : List ℕ) (n : ℕ) → columnOf s given ring out .answer ≡ Taken n → Passed s given ring out
+unfolding columnOf fedBy
+taken-passed s given ring out n e = go (firstOf (columnChecks s given ring out)) refl e
+  where
+    go : (w : Checked) → firstOf (columnChecks s given ring out) ≡ w → fedBy w s given ring out .answer ≡ Taken n → Passed s given ring out
+    go (Bad r) fine e = let z : _≡_ {A = ℕ} 0 1 = cc in let y : ⊥ = omega arith in absurd y
+    go Fine fine e = passed s given ring out fine

@@ -10,7 +10,14 @@ ghost use Rattle.feed.specs.Ring.{slotOf, samplesFed};
 ghost use Rattle.feed.specs.Lent.{Lent, Around, Wide};
 
 // A sample, from its own place and the one before it in a slice of the ring, and from the one after it in the ring or in the column given.
-fn sample_of<'a>(l: &'a [f32], left: usize, mid: usize, r: &'a [f32], right: usize, sigma: f32) -> f32
+fn sample_of<'a>(
+    l: &'a [f32],
+    left: usize,
+    mid: usize,
+    r: &'a [f32],
+    right: usize,
+    sigma: f32,
+) -> f32
     requires { ⌜ Around (length (now l)) (length (now r)) left mid right ⌝ }
     ensures { λ v. ⌜ v ≡ stencilOf (now (l .entry) at left) (now (r .entry) at right) (now (l .entry) at (mid - 1)) (now (l .entry) at (mid + 1)) (now (l .entry) at mid) sigma ⌝ }
 {

@@ -8,7 +8,7 @@ use native.Mathlib.Nat.{not-suc-le-zero}
 use lib.ListN.{length, getD, set, length-set}
 use lib.Seq.{getD-set-same}
 use borrow.Author.Count.{below-more}
-use Rattle.rivals.specs.List.{Raised}
+use Rattle.rivals.specs.List.{Among, Raised}
 
 -- before the first code
 pub raised-none : (Q : ℕ → Type 0) (codes keep : List ℕ) → Raised Q codes 0 keep keep
@@ -61,3 +61,7 @@ raised-more {f} {codes} {keep} {l} {j} v test r inside tested is = record {
     either (inl e) (inl h) = inl (e ∙ h)
     either (inl e) (inr h) = inr (e ∙ h)
     either (inr e) h = inr e
+
+-- a code of the list has raised its pixel, or has Q
+pub raised-code : {Q : ℕ → Type 0} {codes keep keep' : List ℕ} {k e : ℕ} → Raised Q codes k keep keep' → Among codes k e → (getD keep' (e % 780) 0 ≡ 1) ⊎ Q e
+raised-code {Q} {keep' = keep'} raised here = subst (λ (e : ℕ). (getD keep' (e % 780) 0 ≡ 1) ⊎ Q e) (here .is) (raised .done (here .place) (here .inside))

@@ -110,3 +110,7 @@ module _ (Q : ℕ → Type 0) (before : List ℕ) where
       go : (test : Bool) → (test ≡ true → Q (getD l j 0)) → m < length l → b ≡ cond test 0 1 → Among (set l m (getD l j 0)) (m + b) (getD l j 0) ⊎ Q (getD l j 0)
       go true gives room e = inr (gives refl)
       go false gives room e = inl (among-here l m (getD l j 0) b room e)
+
+-- a code of the list before is among those after it, or has Q
+pub thinned-code : {Q : ℕ → Type 0} {codes codes' : List ℕ} {m k e : ℕ} → Thinned Q codes m codes' k → Among codes m e → Among codes' k e ⊎ Q e
+thinned-code {Q} {codes' = codes'} {k = k} thinned here = subst (λ (e : ℕ). Among codes' k e ⊎ Q e) (here .is) (thinned .kept (here .place) (here .inside))

@@ -139,7 +139,7 @@ one-of false false false false false true g h k pa pb pc pd pe pf pg ph = pf ref
 one-of false false false false false false true h k pa pb pc pd pe pf pg ph = pg refl
 one-of false false false false false false false h k pa pb pc pd pe pf pg ph = ph k
 
-either-of : {P : Type 0} (a b : Bool) → (a || b) ≡ true → (a ≡ true → P) → (b ≡ true → P) → P
+pub either-of : {P : Type 0} (a b : Bool) → (a || b) ≡ true → (a ≡ true → P) → (b ≡ true → P) → P
 either-of true b k pa pb = pa refl
 either-of false b k pa pb = pb k
 
@@ -166,33 +166,37 @@ unfolding acceptedOf
 not-accepted (Accepted spot) h = absurd (true≢false h)
 not-accepted Rejected h = refl
 
--- ---- a candidate that is ruled out
+-- the nine cubics are those of nine samples, if each of them is
+pub cubics-in : (s : Set) (nine : List (List Float)) (x y z i : ℕ) (a b c d : List Float) → length nine ≡ 9
+    → ((j : ℕ) → j < 9 → cubicIn a b c d (placeOf x y z i j) ≡ coeffsOf (s .scale) (getD nine j [])) → nineIn x y z i a b c d ≡ cubicsAt s nine
+cubics-in s nine x y z i a b c d long each =
+    ext-getD [] (nineIn x y z i a b c d) (cubicsAt s nine) (nine-in-long x y z i a b c d ∙ sym (length-cubics (s .scale) nine ∙ long))
+    (λ j h. let b9 : j < 9 = subst (λ (n : ℕ). j < n) (nine-in-long x y z i a b c d) h in
+    nine-in x y z i a b c d j b9 ∙ each j b9 ∙ sym (cubics-place (s .scale) nine j (subst (λ (n : ℕ). j < n) (sym long) b9)))
 
-module _ (s : Set) (th : Thresholds) (f : Frame) (nine : List (List Float)) (row col : ℕ) (x y z i : ℕ) (a b c d p v : List Float) (w : List ℕ) (around : Around s th nine x y z i a b c d p v w) where
-  abbrev own : ReadyAt s th (ownSamples nine) a b c d p v w (y + i + 1)
-  own = around .places 4 (omega arith)
+-- ---- a candidate that is ruled out, by what stands at its own place m
 
+module _ (s : Set) (th : Thresholds) (f : Frame) (nine : List (List Float)) (row col m : ℕ) (a b c d p v : List Float) (w : List ℕ) (long : length nine ≡ 9) (own : ReadyAt s th (ownSamples nine) a b c d p v w m) where
   enough : (j : ℕ) → j < 9 → j < length nine
-  enough j h = subst (λ (n : ℕ). j < n) (sym (around .long)) h
-
-  -- the nine cubics are those of the nine samples
-  pub cubics-in : nineIn x y z i a b c d ≡ cubicsAt s nine
-  cubics-in =
-      ext-getD [] (nineIn x y z i a b c d) (cubicsAt s nine) (nine-in-long x y z i a b c d ∙ sym (length-cubics (s .scale) nine ∙ around .long))
-      (λ j h. let b9 : j < 9 = subst (λ (n : ℕ). j < n) (nine-in-long x y z i a b c d) h in
-      nine-in x y z i a b c d j b9 ∙ around .places j b9 .cubic ∙ sym (cubics-place (s .scale) nine j (enough j b9)))
+  enough j h = subst (λ (n : ℕ). j < n) (sym long) h
 
   -- a word below 4 without the polarity's bit
-  pub unmarked-rules : (isMax : Bool) → getD w (y + i + 1) 0 < 4 → bitOf (getD w (y + i + 1) 0) isMax ≡ 0 → verdictOf s th f nine row col isMax ≡ Nothing
+  pub unmarked-rules : (isMax : Bool) → getD w m 0 < 4 → bitOf (getD w m 0) isMax ≡ 0 → verdictOf s th f nine row col isMax ≡ Nothing
   unmarked-rules isMax small h = word-rules s th f nine row col isMax (own .root) (own .known) (subst (λ (n : ℕ). n < 4) word small) (subst (λ (n : ℕ). bitOf n isMax ≡ 0) word h)
     where
-      word : getD w (y + i + 1) 0 ≡ wordOf (windowOf th) (ownSamples nine) (pointOf (signOf false) (made own) (own .root)) (heightOf (signOf false) (made own) (own .root)) (pointOf (signOf true) (made own) (own .root)) (heightOf (signOf true) (made own) (own .root)) (own .root)
+      word : getD w m 0 ≡ wordOf (windowOf th) (ownSamples nine) (pointOf (signOf false) (made own) (own .root)) (heightOf (signOf false) (made own) (own .root)) (pointOf (signOf true) (made own) (own .root)) (heightOf (signOf true) (made own) (own .root)) (own .root)
       word = own .word ∙ rw (own .low-point, own .low-height, own .high-point, own .high-height)
 
-  -- ---- with it, and a rival
-  module _ (isMax : Bool) (small : getD w (y + i + 1) 0 < 4) (set : bitOf (getD w (y + i + 1) 0) isMax ≡ 1) where
+  -- ---- with it, and a rival; the polarity's point stands at place e
+  module _ (isMax : Bool) (small : getD w m 0 < 4) (set : bitOf (getD w m 0) isMax ≡ 1) (e : ℕ) (place : e ≡ cond isMax (780 + m) m) where
     abbrev point : Float
     point = here own isMax
+
+    own-point : p at e ≡ point
+    own-point = ap (λ (n : ℕ). p at n) place ∙ picked p isMax (780 + m) m
+
+    own-height : v at e ≡ height own isMax
+    own-height = ap (λ (n : ℕ). v at n) place ∙ picked v isMax (780 + m) m
 
     tame : wild th ≡ false
     tame = own-told own isMax small set .0
@@ -206,47 +210,51 @@ module _ (s : Set) (th : Thresholds) (f : Frame) (nine : List (List Float)) (row
     value : height own isMax ≡ signOf isMax ⊗ hornerOf (ownCubic s nine) point
     value = number-told own isMax (own-told own isMax small set .1) .1 ∙ ap (λ (k : List Float). signOf isMax ⊗ hornerOf k point) (sym same-cubic)
 
-    -- the point of a neighbour
-    rule-point : (j : ℕ) (h : j < 9) → eqb j 4 ≡ false → reaches (bandOf (s .sigmas) point) (height own isMax) (here (around .places j h) isMax) (height (around .places j h) isMax) ≡ true →
-        verdictOf s th f nine row col isMax ≡ Nothing
-    rule-point j h other e =
-        let r = around .places j h in
-        let t = reaches-told _ _ _ _ e in
+    -- the point of the j-th of the nine, which stands at place q
+    pub rule-point : (j q idx : ℕ) → j < 9 → eqb j 4 ≡ false → ReadyAt s th (getD nine j []) a b c d p v w q → idx ≡ cond isMax (780 + q) q →
+        reachesAt (bandOf (s .sigmas) (p at e)) (v at e) p v idx ≡ true → verdictOf s th f nine row col isMax ≡ Nothing
+    rule-point j q idx h other r is reaching =
+        let t = reaches-told _ _ _ _ (sym same ∙ reaching) in
         let n = number-told r isMax (below-number _ _ (subst T (sym (t .0)) tt) .1) in
         point-rules s th f nine row col isMax tame point stationary j h (enough j h) other (here r isMax) (n .0) (t .0) (t .1)
         (subst T (sym (sym (ap (λ (k : Float). le k (height r isMax)) value ∙ ap (λ (k : Float). le (signOf isMax ⊗ hornerOf (ownCubic s nine) point) k) (n .1)) ∙ t .2)) tt)
+      where
+        same : reachesAt (bandOf (s .sigmas) (p at e)) (v at e) p v idx ≡ reaches (bandOf (s .sigmas) point) (height own isMax) (here r isMax) (height r isMax)
+        same = rw (own-point, own-height, is, picked p isMax (780 + q) q, picked v isMax (780 + q) q)
 
-    -- an end of the band
-    rule-end : (j : ℕ) → j < 9 → eqb j 4 ≡ false → ends (cubicIn a b c d (placeOf x y z i j)) (signOf isMax) (height own isMax) (bandOf (s .sigmas) point) ≡ true → verdictOf s th f nine row col isMax ≡ Nothing
+    -- its cubic k, at an end of the band
+    pub rule-end : (j : ℕ) (k : List Float) → j < 9 → eqb j 4 ≡ false → k ≡ coeffsOf (s .scale) (getD nine j []) → ends k (signOf isMax) (v at e) (bandOf (s .sigmas) (p at e)) ≡ true → verdictOf s th f nine row col isMax ≡ Nothing
     unfolding ends
-    rule-end j h other e =
-        either-of _ _ e
+    rule-end j k h other cubic reaching =
+        either-of _ _ (rw (own-point, own-height) at reaching)
         (λ t. low-rules s th f nine row col isMax tame point stationary j h (enough j h) other (reach (bandOf (s .sigmas) point .low) t))
         (λ t. high-rules s th f nine row col isMax tame point stationary j h (enough j h) other (reach (bandOf (s .sigmas) point .high) t))
       where
-        reach : (q : Float) → le (height own isMax) (signOf isMax ⊗ hornerOf (cubicIn a b c d (placeOf x y z i j)) q) ≡ true → T (le (signOf isMax ⊗ hornerOf (ownCubic s nine) point) (signOf isMax ⊗ hornerOf (coeffsOf (s .scale) (getD nine j [])) q))
-        reach q t = subst T (sym (sym (ap (λ (k : Float). le k (signOf isMax ⊗ hornerOf (cubicIn a b c d (placeOf x y z i j)) q)) value
-            ∙ ap (λ (k : List Float). le (signOf isMax ⊗ hornerOf (ownCubic s nine) point) (signOf isMax ⊗ hornerOf k q)) (around .places j h .cubic)) ∙ t)) tt
+        reach : (q : Float) → le (height own isMax) (signOf isMax ⊗ hornerOf k q) ≡ true → T (le (signOf isMax ⊗ hornerOf (ownCubic s nine) point) (signOf isMax ⊗ hornerOf (coeffsOf (s .scale) (getD nine j [])) q))
+        reach q t = subst T (sym (sym (ap (λ (x : Float). le x (signOf isMax ⊗ hornerOf k q)) value
+            ∙ ap (λ (x : List Float). le (signOf isMax ⊗ hornerOf (ownCubic s nine) point) (signOf isMax ⊗ hornerOf x q)) cubic) ∙ t)) tt
 
-    -- the refinement
-    rule-refused : acceptedOf (refineOf s (th .ratio) (nineIn x y z i a b c d) (spotOf point isMax)) ≡ false → verdictOf s th f nine row col isMax ≡ Nothing
-    rule-refused e =
+    -- the refinement, by the nine cubics k
+    pub rule-refused : (k : List (List Float)) → k ≡ cubicsAt s nine → acceptedOf (refineOf s (th .ratio) k (spotOf (p at e) isMax)) ≡ false → verdictOf s th f nine row col isMax ≡ Nothing
+    rule-refused k cubics refused =
         refusal-rules s th f nine row col isMax tame point stationary (spotOf point isMax) refl refl
-        (ap (λ (k : List (List Float)). refineOf s (th .ratio) k (spotOf point isMax)) (sym cubics-in) ∙ not-accepted _ e)
+        (ap (λ (x : List (List Float)). refineOf s (th .ratio) x (spotOf point isMax)) (sym cubics) ∙ not-accepted _ (subst (λ (x : Float). acceptedOf (refineOf s (th .ratio) k (spotOf x isMax)) ≡ false) own-point refused))
 
-    -- ---- the same, by codes
-    own-point : p at (y + codeOf i isMax + 1) ≡ point
-    own-point = ap (λ (n : ℕ). p at n) (code-index isMax y i 1) ∙ picked p isMax (780 + (y + i + 1)) (y + i + 1)
+-- ---- by the lines of the three columns
 
-    own-height : v at (y + codeOf i isMax + 1) ≡ height own isMax
-    own-height = ap (λ (n : ℕ). v at n) (code-index isMax y i 1) ∙ picked v isMax (780 + (y + i + 1)) (y + i + 1)
+module _ (s : Set) (th : Thresholds) (f : Frame) (nine : List (List Float)) (row col : ℕ) (x y z i : ℕ) (a b c d p v : List Float) (w : List ℕ) (around : Around s th nine x y z i a b c d p v w) where
+  abbrev own : ReadyAt s th (ownSamples nine) a b c d p v w (y + i + 1)
+  own = around .places 4 (omega arith)
 
-    reach-at : (j idx : ℕ) (h : j < 9) → eqb j 4 ≡ false → idx ≡ cond isMax (780 + placeOf x y z i j) (placeOf x y z i j) →
+  module _ (isMax : Bool) (small : getD w (y + i + 1) 0 < 4) (set : bitOf (getD w (y + i + 1) 0) isMax ≡ 1) where
+    reach-at : (j idx : ℕ) → j < 9 → eqb j 4 ≡ false → idx ≡ cond isMax (780 + placeOf x y z i j) (placeOf x y z i j) →
         reachesAt (bandOf (s .sigmas) (p at (y + codeOf i isMax + 1))) (v at (y + codeOf i isMax + 1)) p v idx ≡ true → verdictOf s th f nine row col isMax ≡ Nothing
-    reach-at j idx h other e t = rule-point j h other (sym same ∙ t)
-      where
-        same : reachesAt (bandOf (s .sigmas) (p at (y + codeOf i isMax + 1))) (v at (y + codeOf i isMax + 1)) p v idx ≡ reaches (bandOf (s .sigmas) point) (height own isMax) (here (around .places j h) isMax) (height (around .places j h) isMax)
-        same = rw (own-point, own-height, e, picked p isMax (780 + placeOf x y z i j) (placeOf x y z i j), picked v isMax (780 + placeOf x y z i j) (placeOf x y z i j))
+    reach-at j idx h other = rule-point s th f nine row col (y + i + 1) a b c d p v w (around .long) own isMax small set (y + codeOf i isMax + 1) (code-index isMax y i 1) j (placeOf x y z i j) idx h other (around .places j h)
+
+    end-at : (j q : ℕ) → j < 9 → eqb j 4 ≡ false → q ≡ placeOf x y z i j →
+        endsAt a b c d (signOf isMax) (v at (y + codeOf i isMax + 1)) (bandOf (s .sigmas) (p at (y + codeOf i isMax + 1))) q ≡ true → verdictOf s th f nine row col isMax ≡ Nothing
+    end-at j q h other is =
+        rule-end s th f nine row col (y + i + 1) a b c d p v w (around .long) own isMax small set (y + codeOf i isMax + 1) (code-index isMax y i 1) j (cubicIn a b c d q) h other (ap (cubicIn a b c d) is ∙ around .places j h .cubic)
 
     reached-rules : reachedOf (s .sigmas) x y z (codeOf i isMax) p v ≡ true → verdictOf s th f nine row col isMax ≡ Nothing
     unfolding reachedOf
@@ -261,33 +269,38 @@ module _ (s : Set) (th : Thresholds) (f : Frame) (nine : List (List Float)) (row
         (reach-at 5 (z + codeOf i isMax + 1) (omega arith) refl (code-index isMax z i 1))
         (reach-at 8 (z + codeOf i isMax + 2) (omega arith) refl (code-index isMax z i 2))
 
-    ended-rules : endedOf x y z i a b c d (signOf isMax) (height own isMax) (bandOf (s .sigmas) point) ≡ true → verdictOf s th f nine row col isMax ≡ Nothing
+    ended-rules : endedOf x y z i a b c d (signOf isMax) (v at (y + codeOf i isMax + 1)) (bandOf (s .sigmas) (p at (y + codeOf i isMax + 1))) ≡ true → verdictOf s th f nine row col isMax ≡ Nothing
     unfolding endedOf
     ended-rules t =
         one-of _ _ _ _ _ _ _ _ t
-        (λ e. rule-end 0 (omega arith) refl (sym (start x) ∙ e))
-        (rule-end 3 (omega arith) refl)
-        (rule-end 6 (omega arith) refl)
-        (λ e. rule-end 1 (omega arith) refl (sym (start y) ∙ e))
-        (rule-end 7 (omega arith) refl)
-        (λ e. rule-end 2 (omega arith) refl (sym (start z) ∙ e))
-        (rule-end 5 (omega arith) refl)
-        (rule-end 8 (omega arith) refl)
-      where
-        start : (m : ℕ) → endsAt a b c d (signOf isMax) (height own isMax) (bandOf (s .sigmas) point) (m + i) ≡ endsAt a b c d (signOf isMax) (height own isMax) (bandOf (s .sigmas) point) (m + i + 0)
-        start m = ap (endsAt a b c d (signOf isMax) (height own isMax) (bandOf (s .sigmas) point)) (omega arith)
+        (end-at 0 (x + i) (omega arith) refl (omega arith))
+        (end-at 3 (x + i + 1) (omega arith) refl refl)
+        (end-at 6 (x + i + 2) (omega arith) refl refl)
+        (end-at 1 (y + i) (omega arith) refl (omega arith))
+        (end-at 7 (y + i + 2) (omega arith) refl refl)
+        (end-at 2 (z + i) (omega arith) refl (omega arith))
+        (end-at 5 (z + i + 1) (omega arith) refl refl)
+        (end-at 8 (z + i + 2) (omega arith) refl refl)
 
     fallen-rules : i < 254 → survivesOf s (th .ratio) x y z (codeOf i isMax) a b c d p v ≡ false → verdictOf s th f nine row col isMax ≡ Nothing
     unfolding survivesOf
-    fallen-rules short t = go (endedOf x y z i a b c d (signOf isMax) (height own isMax) (bandOf (s .sigmas) point)) refl (rw (code-row isMax i short, code-high isMax i short, own-point, own-height) at t)
+    fallen-rules short t = go (endedOf x y z i a b c d (signOf isMax) val (bandOf (s .sigmas) sigma)) refl (rw (code-row isMax i short, code-high isMax i short) at t)
       where
-        go : (e : Bool) → endedOf x y z i a b c d (signOf isMax) (height own isMax) (bandOf (s .sigmas) point) ≡ e →
-            (not e && acceptedOf (refineOf s (th .ratio) (nineIn x y z i a b c d) (spotOf point isMax))) ≡ false → verdictOf s th f nine row col isMax ≡ Nothing
+        sigma : Float
+        sigma = p at (y + codeOf i isMax + 1)
+
+        val : Float
+        val = v at (y + codeOf i isMax + 1)
+
+        go : (e : Bool) → endedOf x y z i a b c d (signOf isMax) val (bandOf (s .sigmas) sigma) ≡ e →
+            (not e && acceptedOf (refineOf s (th .ratio) (nineIn x y z i a b c d) (spotOf sigma isMax))) ≡ false → verdictOf s th f nine row col isMax ≡ Nothing
         go true e k = ended-rules e
-        go false e k = rule-refused k
+        go false e k =
+            rule-refused s th f nine row col (y + i + 1) a b c d p v w (around .long) own isMax small set (y + codeOf i isMax + 1) (code-index isMax y i 1) (nineIn x y z i a b c d)
+            (cubics-in s nine x y z i a b c d (around .long) (λ j h. around .places j h .cubic)) k
 
   -- ---- what the lists rule out lists nothing
   pub off-rules : (isMax : Bool) → i < 254 → getD w (y + i + 1) 0 < 4 → Off s (th .ratio) x y z a b c d p v w i isMax → verdictOf s th f nine row col isMax ≡ Nothing
-  off-rules isMax short small (unmarked h) = unmarked-rules isMax small h
+  off-rules isMax short small (unmarked h) = unmarked-rules s th f nine row col (y + i + 1) a b c d p v w (around .long) own isMax small h
   off-rules isMax short small (reached h t) = reached-rules isMax small h t
   off-rules isMax short small (fallen h t) = fallen-rules isMax small h short t

@@ -33,11 +33,17 @@ stateOf b = record {
   position = wordFrom b 556;
 }
 
+-- the thresholds' bytes
+unfoldable pub thresholdsBytes : Thresholds → List ℕ
+thresholdsBytes th = floatBytes (th .peak) ++ (floatBytes (th .sigma) ++ (floatBytes (th .ratio) ++ (floatBytes (th .low) ++ floatBytes (th .high))))
+
+-- those of rows, cols, a position of 0 and the octave
+unfoldable pub numbersBytes : ℕ → ℕ → ℕ → List ℕ
+numbersBytes rows cols octave = wordBytes rows ++ (wordBytes cols ++ (wordBytes 0 ++ (octave ∷ 0 ∷ 0 ∷ 0 ∷ [])))
+
 -- the bytes of the state before the first column; set are those of the set record
 unfoldable pub openedBytes : List ℕ → Thresholds → ℕ → ℕ → ℕ → List ℕ
-openedBytes set th rows cols octave =
-    set ++ (floatBytes (th .peak) ++ (floatBytes (th .sigma) ++ (floatBytes (th .ratio) ++ (floatBytes (th .low) ++ (floatBytes (th .high)
-    ++ (wordBytes rows ++ (wordBytes cols ++ (wordBytes 0 ++ (octave ∷ 0 ∷ 0 ∷ 0 ∷ [])))))))))
+openedBytes set th rows cols octave = set ++ (thresholdsBytes th ++ numbersBytes rows cols octave)
 
 -- ---- start
 

@@ -1,10 +1,10 @@
 // A feed's state, read from bytes and written.
 ghost use mathlib.Core.Path.{_≡_};
 ghost use Prim.Native.Nat.{_+_, _≤_, _<_, _^_};
-ghost use lib.ListN.{length, take};
+ghost use lib.ListN.{length};
 ghost use lib.Seq.{sets};
-ghost use Rattle.words.specs.Words.{floatBytes, wordBytes, wordFrom};
-ghost use Rattle.states.specs.Bytes.{stateOf, openedBytes};
+ghost use Rattle.words.specs.Words.{wordBytes, wordFrom};
+ghost use Rattle.states.specs.Bytes.{stateOf, thresholdsBytes, numbersBytes, openedBytes};
 use feed::State;
 use tables::Thresholds;
 use words::float_from;
@@ -66,6 +66,29 @@ fn put_set(set: &[u8], state: &mut [u8])
     }
 }
 
+// The thresholds at their places.
+fn put_thresholds(th: Thresholds, state: &mut [u8])
+    requires { ⌜ 564 ≤ length (now state) ⌝ }
+    ensures { λ _. ⌜ now (state .exit) ≡ sets (now (state .entry)) 528 (thresholdsBytes th) ⌝ }
+{
+    put_float(state, 528, th.peak);
+    put_float(state, 532, th.sigma);
+    put_float(state, 536, th.ratio);
+    put_float(state, 540, th.low);
+    put_float(state, 544, th.high);
+}
+
+// Rows, cols, a position of 0 and the octave at theirs.
+fn put_numbers(rows: u32, cols: u32, octave: u8, state: &mut [u8])
+    requires { ⌜ 564 ≤ length (now state) ⌝ }
+    ensures { λ _. ⌜ now (state .exit) ≡ sets (now (state .entry)) 548 (numbersBytes rows cols octave) ⌝ }
+{
+    put_word(state, 548, rows);
+    put_word(state, 552, cols);
+    put_word(state, 556, 0);
+    put_bytes(state, 560, octave, 0, 0, 0);
+}
+
 // The state before the first column, at the buffer's start.
 pub fn write_state(
     set: &[u8],
@@ -81,13 +104,6 @@ pub fn write_state(
     ensures { λ _. ⌜ now (state .exit) ≡ sets (now (state .entry)) 0 (openedBytes (now (set .entry)) th rows cols octave) ⌝ }
 {
     put_set(set, state);
-    put_float(state, 528, th.peak);
-    put_float(state, 532, th.sigma);
-    put_float(state, 536, th.ratio);
-    put_float(state, 540, th.low);
-    put_float(state, 544, th.high);
-    put_word(state, 548, rows as u32);
-    put_word(state, 552, cols as u32);
-    put_word(state, 556, 0);
-    put_bytes(state, 560, octave as u8, 0, 0, 0);
+    put_thresholds(th, state);
+    put_numbers(rows as u32, cols as u32, octave as u8, state);
 }

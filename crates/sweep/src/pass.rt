@@ -5,9 +5,9 @@ ghost use lib.ListN.{length, getD};
 ghost use Rattle.samples.specs.Level.{mapsOf, Sized};
 ghost use Rattle.sweep.specs.Ruled.{Ruled, Before, Passed};
 use marks::put_line;
-use slots::column;
 use pixel::Frame;
 use rivals::thin::thin;
+use slots::column;
 use tables::Set;
 use tables::Thresholds;
 
