@@ -2,4 +2,5 @@
 pub mod Case
 pub mod MapM
 pub mod Raw
+pub mod Feeds
 pub mod Table

@@ -5,6 +5,7 @@ use Rattle.tables.specs.Set.{blank}
 use Rattle.tables.specs.SetT.{sigmasT, cubicT, setT}
 use Rattle.cases.specs.Case.{Case, rootCase, logCase, nearestCase, valueCase, extremeCase, countCase, envelopeCase, statisticCase, correctionCase}
 use Rattle.cases.specs.Raw.{radiusCase, radiiCase, tapCase, levelCase, wholeCase, rawCase}
+use Rattle.cases.specs.Feeds.{startCase, fedCase, columnCase}
 use Rattle.cases.specs.MapM.{put, levelM, bytesM, minimumM, smallM, mapCase, sizedCase, thresholdsOf, thresholdsM, checksCase}
 
 -- the worked cases in document 01's order; after P12 the other cases of the correction, then those of document 02's requests
@@ -139,4 +140,23 @@ table =
     -- Map M's spot as a minimum, and with a sigma of 0.25, sized: no size, accepted 0, and the cause in the first byte after it.
     ∷ sizedCase minimumM (minimumM ++ (0x00 ∷ 0x00 ∷ 0x00 ∷ 0x00 ∷ 0x04 ∷ 0x00 ∷ 0x05 ∷ 0x00 ∷ 0x00 ∷ 0x01 ∷ 0x00 ∷ 0x00 ∷ []))
     ∷ sizedCase smallM (smallM ++ (0x00 ∷ 0x00 ∷ 0x00 ∷ 0x00 ∷ 0x04 ∷ 0x00 ∷ 0x05 ∷ 0x00 ∷ 0x00 ∷ 0x02 ∷ 0x00 ∷ 0x00 ∷ []))
+    -- No. 6 start takes map M with a ring of 45 floats a level; its checks are 1, 3, 8, 4, 6, each before the next where both hold.
+    ∷ startCase 9 10 0 thresholdsM setT 45 (0 ∷ [])
+    ∷ startCase 4097 10 6 thresholdsM setT 45 (1 ∷ [])
+    ∷ startCase 9 10 6 (thresholdsOf 0x7fc00000 0x3f800000 0x41200000 0x3ff38cb4 0x4084cbdf) setT 45 (3 ∷ [])
+    ∷ startCase 9 10 0 (thresholdsOf 0x7fc00000 0x3f800000 0x41200000 0x3ff38cb4 0x4084cbdf) blank 45 (8 ∷ [])
+    ∷ startCase 9 10 0 thresholdsM blank 44 (4 ∷ [])
+    ∷ startCase 9 10 0 thresholdsM setT 44 (6 ∷ [])
+    -- Map M by columns: six list nothing, the seventh its spot, and so all ten; with an output of 39 bytes the seventh is not taken, nor any after it.
+    ∷ fedCase 40 6 (6 ∷ [])
+    ∷ fedCase 40 7 (bytesM ++ (7 ∷ []))
+    ∷ fedCase 40 10 (bytesM ++ (10 ∷ []))
+    ∷ fedCase 39 10 (6 ∷ [])
+    -- 9 once all columns have come, whatever else is wrong; then 2, also with a short ring; then 6.
+    ∷ columnCase 10 10 8 44 (0 ∷ 9 ∷ [])
+    ∷ columnCase 10 9 8 44 (0 ∷ 2 ∷ [])
+    ∷ columnCase 10 9 9 44 (0 ∷ 6 ∷ [])
+    ∷ columnCase 10 9 9 45 (0 ∷ [])
+    -- A state that start did not make, with more than 4,096 cols, has none to come.
+    ∷ columnCase 4097 0 9 45 (0 ∷ 9 ∷ [])
     ∷ []

@@ -13,7 +13,15 @@ use Rattle.tables.proofs.read_set as read-set
 use Rattle.tables.proofs.refusals.cause_of as cause-of
 use Rattle.tables.proofs.refusals.number_of as number-of
 use Rattle.tables.proofs.refusals.value_of as value-of
+use Rattle.tables.proofs.reader.set_of as set-of
+use Rattle.checks.proofs.sides_off as sides-off
+use Rattle.checks.proofs.levels_off as levels-off
+use Rattle.checks.proofs.octave_off as octave-off
 use Rattle.checks.proofs.checked as checked
+use Rattle.feed.proofs.feed_start as feed-start
+use Rattle.feed.proofs.feed_column as feed-column
+use Rattle.states.proofs.start as start
+use Rattle.states.proofs.column as column
 use Rattle.alp.proofs.detect as detect
 use Rattle.join.proofs.join as join
 use Rattle.size.proofs.correct as correct
@@ -55,6 +63,18 @@ module _ {M : Type 1} (𝓤 : URA M) (H : Heap 𝓤) (A : Atoms 𝓤) (mem : Mem
   value-of-settled κs a g g' r r' ws ws' = one-answer 𝓤 _
 
   -- ---- detection's checks, detection, the join, the correction
+
+  pub set-of-settled : Settles 𝓤 set-of.ended (set-of.clauses 𝓤 H A mem run)
+  set-of-settled κs a g g' r r' ws ws' = one-answer 𝓤 _
+
+  pub sides-off-settled : Settles 𝓤 sides-off.ended (sides-off.clauses 𝓤 H A mem run)
+  sides-off-settled κs a g g' r r' ws ws' = one-answer 𝓤 _
+
+  pub levels-off-settled : Settles 𝓤 levels-off.ended (levels-off.clauses 𝓤 H A mem run)
+  levels-off-settled κs a g g' r r' ws ws' = one-answer 𝓤 _
+
+  pub octave-off-settled : Settles 𝓤 octave-off.ended (octave-off.clauses 𝓤 H A mem run)
+  octave-off-settled κs a g g' r r' ws ws' = one-answer 𝓤 _
 
   pub checked-settled : Settles 𝓤 checked.ended (checked.clauses 𝓤 H A mem run)
   checked-settled κs a g g' r r' ws ws' = one-answer 𝓤 _
@@ -106,3 +126,19 @@ module _ {M : Type 1} (𝓤 : URA M) (H : Heap 𝓤) (A : Atoms 𝓤) (mem : Mem
 
   pub response-of-settled : Settles 𝓤 response-of.ended (response-of.clauses 𝓤 H A mem run)
   response-of-settled κs a g g' r r' ws ws' = one-answer 𝓤 _
+
+  -- ---- the feed, and the feed over bytes
+
+  pub feed-start-settled : Settles 𝓤 feed-start.ended (feed-start.clauses 𝓤 H A mem run)
+  feed-start-settled κs a g g' r r' ws ws' = one-answer 𝓤 _
+
+  pub feed-column-settled : Settles 𝓤 feed-column.ended (feed-column.clauses 𝓤 H A mem run)
+  feed-column-settled κs a g g' r r' ws ws' =
+      one-value 𝓤 _ _ _ (λ x. record { answer = x .answer; state = x .state }) (λ x. untouched 5 (x .ring .l0, (x .ring .l1, (x .ring .l2, (x .ring .l3, (x .out, tt))))))
+
+  pub start-settled : Settles 𝓤 start.ended (start.clauses 𝓤 H A mem run)
+  start-settled κs a g g' r r' ws ws' = one-value 𝓤 _ _ _ (λ x. x .number) (λ x. untouched 9 (x .state, tt))
+
+  pub column-settled : Settles 𝓤 column.ended (column.clauses 𝓤 H A mem run)
+  column-settled κs a g g' r r' ws ws' =
+      one-value 𝓤 _ _ _ (λ x. x .number) (λ x. (x .state, untouched 4 (x .ring .l0, (x .ring .l1, (x .ring .l2, (x .ring .l3, (x .out, (x .value, tt))))))))

@@ -13,6 +13,8 @@ use Rattle.alp_c.proofs.uramsheg_octave_count as uramsheg-octave-count
 use Rattle.alp_c.proofs.uramsheg_downsample as uramsheg-downsample
 use Rattle.alp_c.proofs.uramsheg_levels as uramsheg-levels
 use Rattle.alp_c.proofs.uramsheg_set_check as uramsheg-set-check
+use Rattle.alp_c.proofs.uramsheg_feed_start as uramsheg-feed-start
+use Rattle.alp_c.proofs.uramsheg_feed_column as uramsheg-feed-column
 use Rattle.promises.specs.Settles.{Settles}
 use Rattle.promises.proofs.Facts.{one-value, one-answer, untouched}
 
@@ -37,3 +39,10 @@ module _ {M : Type 1} (𝓤 : URA M) (H : Heap 𝓤) (A : Atoms 𝓤) (mem : Mem
 
   pub uramsheg-levels-settled : Settles 𝓤 uramsheg-levels.ended (uramsheg-levels.clauses 𝓤 H A mem run)
   uramsheg-levels-settled κs a g g' r r' ws ws' = one-value 𝓤 _ _ _ (λ x. x .number) (λ x. untouched 5 (x .l0, (x .l1, (x .l2, (x .l3, tt)))))
+
+  pub uramsheg-feed-start-settled : Settles 𝓤 uramsheg-feed-start.ended (uramsheg-feed-start.clauses 𝓤 H A mem run)
+  uramsheg-feed-start-settled κs a g g' r r' ws ws' = one-value 𝓤 _ _ _ (λ x. x .number) (λ x. untouched 13 (x .state, tt))
+
+  pub uramsheg-feed-column-settled : Settles 𝓤 uramsheg-feed-column.ended (uramsheg-feed-column.clauses 𝓤 H A mem run)
+  uramsheg-feed-column-settled κs a g g' r r' ws ws' =
+      one-value 𝓤 _ _ _ (λ x. x .number) (λ x. (x .state, untouched 4 (x .ring .l0, (x .ring .l1, (x .ring .l2, (x .ring .l3, (x .out, (x .value, tt))))))))

@@ -48,6 +48,7 @@ use Rattle.pixel.proofs.ring.beats_all as beats-all
 use Rattle.pixel.proofs.judge.cubics_of as cubics-of
 use Rattle.pixel.proofs.judge.verdict as verdict
 use Rattle.pixel.proofs.judge.listing as listing
+use Rattle.pixel.proofs.listed.lay_listing as lay-listing
 use Rattle.profile.proofs.profile_compatibility_statistic as profile-compatibility-statistic
 use Rattle.size.proofs.anchor.geometry_of as geometry-of
 use Rattle.size.proofs.anchor.profile_beta_from_statistic as profile-beta-from-statistic
@@ -187,6 +188,9 @@ module _ {M : Type 1} (𝓤 : URA M) (H : Heap 𝓤) (A : Atoms 𝓤) (mem : Mem
 
   pub listing-settled : Settles 𝓤 listing.ended (listing.clauses 𝓤 H A mem run)
   listing-settled κs a g g' r r' ws ws' = both-told 𝓤 (λ p q. (λ i. record { low = (p .0 ∙ sym (q .0)) i; high = (p .1 ∙ sym (q .1)) i }, refl))
+
+  pub lay-listing-settled : Settles 𝓤 lay-listing.ended (lay-listing.clauses 𝓤 H A mem run)
+  lay-listing-settled κs a g g' r r' ws ws' = both-told 𝓤 (λ p q. (p .count ∙ sym (q .count), ap (λ (b : List ℕ). untouched 6 (b, untouched 1 tt)) (p .bytes ∙ sym (q .bytes))))
 
   -- ---- the parts of the correction
 
