@@ -83,6 +83,10 @@ impl<'a> Lane<'a> {
         if sound != Some(answer) || *state != due {
             return Err(format!("the start: {answer:?}, by the judge {sound:?}"));
         }
+        let same = |slice: &&mut [f32]| slice.iter().all(|pixel| pixel.to_bits() == fill.to_bits());
+        if !ring.iter().all(same) {
+            return Err("the start wrote the ring".into());
+        }
         if answer.is_err() {
             return Ok(None);
         }
