@@ -35,7 +35,7 @@ impl<R: Read> Columns<R> {
 
     /// Whether the stream ended inside a column.
     fn is_cut_short(&self) -> bool {
-        0 < self.bytes.len() && self.bytes.len() < self.due()
+        !self.bytes.is_empty() && self.bytes.len() < self.due()
     }
 }
 
