@@ -79,14 +79,34 @@ def test_the_maps_of_the_property_hold_spots(name):
 
 @pytest.mark.parametrize("seed", range(6))
 def test_levels_of_a_raw_map(seed):
-    """Noise, a ground, plumes and lost pixels, blurred by the proved levels."""
+    """Noise of two sizes, a high ground or none, and lost pixels, blurred by the proved levels."""
     rng = np.random.default_rng(seed)
-    raw = rng.normal(size=(70, 90)) + 3 * rng.normal(size=(7, 9)).repeat(10, axis=0).repeat(10, axis=1) + rng.choice([0, 1900])
-    raw[rng.integers(70, size=seed), rng.integers(90, size=seed)] = np.nan
+    raw = rng.normal(size=(110, 130)) + 3 * rng.normal(size=(11, 13)).repeat(10, axis=0).repeat(10, axis=1) + rng.choice([0, 1900])
+    raw[rng.integers(110, size=seed), rng.integers(130, size=seed)] = np.nan
     four = u.levels(raw, u.standard())
-    listed = u.detect(four, u.standard(), u.Thresholds(0.01))
-    came = [u.Feed(u.standard(), (0.01,), 70, 90).spots(columns(four))]
-    assert by_key([np.array(list(spots), u.SPOT) for spots in came]).tobytes() == listed.tobytes() and len(listed) > 3
+    listed = u.detect(four, u.standard(), (0.01,))
+    feed = u.Feed(u.standard(), (0.01,), 110, 130)
+    assert by_key(list(map(feed.push, columns(four)))).tobytes() == listed.tobytes() and len(listed) > 9
+
+
+def strips(raw, wide):
+    """The columns of a raw map's levels, made of strips of so many columns and the 16 to each side that a blur may reach."""
+    cols = raw.shape[1]
+    for first in range(0, cols, wide):
+        before, end = max(first - 16, 0), min(first + wide, cols)
+        four = u.levels(raw[:, before : end + 16], u.standard())
+        yield from columns([level[:, first - before : end - before] for level in four])
+
+
+@pytest.mark.parametrize("wide", [1, 7, 40, 200])
+def test_strips_of_raw_columns_have_the_levels_of_the_whole_map(wide):
+    raw = np.random.default_rng(9).normal(size=(60, 90)).astype("f4")
+    raw[30, 70] = np.nan
+    four = u.levels(raw, u.standard())
+    assert all(np.array_equal(one, other, equal_nan=True) for one, other in zip(map(np.array, strips(raw, wide)), map(np.array, columns(four)), strict=True))
+    listed = u.detect(four, u.standard(), (0.01,))
+    feed = u.Feed(u.standard(), (0.01,), 60, 90)
+    assert by_key(list(map(feed.push, strips(raw, wide)))).tobytes() == listed.tobytes() and len(listed) > 3
 
 
 def test_spots_come_with_the_column_two_further_and_by_rows():
@@ -108,7 +128,7 @@ def test_a_feed_that_stops_early_has_listed_its_judged_columns(stop):
     spots = np.array(list(feed.spots(columns(four)[:stop])), u.SPOT)
     judged = np.isin(listed["key"] % 50, np.array(feed.judged, int))
     assert by_key([spots]).tobytes() == listed[judged].tobytes() and feed.position == stop
-    assert (not any(judged)) == (stop < 7) or 0 < judged.sum() <= len(listed)
+    assert len(feed.judged) == min(max(stop - 6, 0), 42) and (stop < 48 or all(judged))
 
 
 def test_spots_come_one_by_one_while_columns_come():
