@@ -89,14 +89,16 @@ fn rows(name: &str, side: usize, levels: &Levels, peaks: &[f32]) {
 /// Every map of detection's table, and what the feed is lent.
 pub fn table(side: usize, blobs: &Levels) {
     println!(
-        "| map | spots | feed, ns a pixel | feed, slices {LONGER} floats longer | our detection | ratio | ratio, longer | Rust's streaming pass | ratio | ratio, longer |"
+        "| map | spots | feed, ns a pixel | feed, slices {LONGER} floats longer | our detection | ratio | ratio, longer | Rust's streaming pass | ratio \
+         | ratio, longer |"
     );
     println!("|---|---|---|---|---|---|---|---|---|---|");
     rows("blobs", side, blobs, &detection::PEAKS);
     detection::others(side, blobs, |name, levels, peaks| rows(name, side, levels, peaks));
     let column = 4 * size_of::<f32>() * side;
     println!(
-        "Lent to the feed: five columns of each level, {} bytes ({} more where slices are longer), a state of {FEED_BYTES}, and room for the records of a column, {}. The four levels of the whole map take {}.\n",
+        "Lent to the feed: five columns of each level, {} bytes ({} more where slices are longer), a state of {FEED_BYTES}, and room for the \
+         records of a column, {}. The four levels of the whole map take {}.\n",
         RING_COLUMNS * column,
         4 * size_of::<f32>() * LONGER,
         2 * side * SPOT_BYTES,
