@@ -7,10 +7,11 @@
 #include <stdlib.h>
 #include <string.h>
 
+#include "map.h"
 #include "uramsheg.h"
 
-enum { MOST = 1 << 16, SPOTS = 64 };
-static float lines[MOST], raw[MOST], level[4][MOST];
+enum { SPOTS = 64 };
+static float raw[MOST], level[4][MOST];
 
 static float get(const uint8_t *record, int word) {
     float x;
@@ -38,21 +39,6 @@ static size_t lost(const float *floats, size_t count) {
     return sum;
 }
 
-/* The map's numbers by rows, and its sides: 0 by 0 where its lines are not all of one length, or are too many. */
-static void read_map(FILE *file, size_t *rows, size_t *cols) {
-    size_t count = 0;
-    int after = 0;
-    *rows = *cols = 0;
-    while (count < MOST && fscanf(file, "%f", &lines[count]) == 1) {
-        count++;
-        after = fgetc(file);
-        if (after == ',') continue;
-        if (++*rows == 1) *cols = count;
-        if (count != *rows * *cols) break;
-    }
-    if (!feof(file) || count != *rows * *cols) *rows = *cols = 0;
-}
-
 int main(int count, char **words) {
     uint8_t set[URAMSHEG_SET_BYTES + 1], out[URAMSHEG_SPOT_BYTES * SPOTS], sized[URAMSHEG_SIZED_BYTES * SPOTS];
     uint64_t found = 0, value = 0;
@@ -60,11 +46,9 @@ int main(int count, char **words) {
     FILE *set_file = count == 3 ? fopen(words[1], "rb") : NULL, *map_file = count == 3 ? fopen(words[2], "r") : NULL;
     if (!set_file || !map_file) return fail("use: levels SET MAP.csv");
     size_t set_length = fread(set, 1, sizeof set, set_file);
-    read_map(map_file, &rows, &cols);
+    read_map(map_file, raw, &rows, &cols);
     size_t pixels = rows * cols;
     if (pixels == 0) return fail("the map's lines are not all of one length, or are too many");
-    for (size_t row = 0; row < rows; row++)
-        for (size_t col = 0; col < cols; col++) raw[col * rows + row] = lines[row * cols + col];
 
     printf("%zu rows by %zu cols, %zu lost\n", rows, cols, lost(raw, pixels));
     uint32_t refused = uramsheg_levels(set, set_length, rows, cols, 0, raw, pixels, level[0], MOST, level[1], MOST, level[2], MOST, level[3], MOST);

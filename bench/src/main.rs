@@ -1,6 +1,8 @@
 //! Times the four levels of a raw map: ours and the Rust's blur; then detection on several maps: ours, the Rust's reference and its streaming pass; then the
-//! sizing of the spots found: our join, and the Rust's correction. One thread, in one run. `bench [SIDE]`; `bench sides` times detection alone, on four sides.
+//! feed on the same maps, and the sizing of the spots found: our join, and the Rust's correction. One thread, in one run. `bench [SIDE]`; `bench feed [SIDE]`
+//! times the feed alone, `bench sides` detection alone, on four sides.
 mod detection;
+mod feed;
 mod maps;
 
 use judge::{Logs, RawMap, Set, fixed};
@@ -84,14 +86,19 @@ fn fastest(mut run: impl FnMut() -> (f64, usize)) -> (f64, usize) {
 }
 
 fn main() {
-    let word = std::env::args().nth(1);
-    if word.as_deref() == Some("sides") {
+    let mut words = std::env::args().skip(1).peekable();
+    if words.next_if_eq("sides").is_some() {
         return detection::sides();
     }
-    let side: usize = word.map_or(1024, |word| word.parse().expect("bench [SIDE | sides]: SIDE is a whole number to 4096"));
+    let alone = words.next_if_eq("feed").is_some();
+    let side: usize = words.next().map_or(1024, |word| word.parse().expect("bench [SIDE | feed [SIDE] | sides]: SIDE is a whole number to 4096"));
     let set = fixed::set(SET);
     let blobs = maps::blobs(side, set.sigmas);
+    if alone {
+        return feed::table(side, &blobs);
+    }
     time_levels(side, &blobs[0]);
     let list = detection::table(side, &blobs);
+    feed::table(side, &blobs);
     time_sizes(&set.to_record(), side, &list);
 }

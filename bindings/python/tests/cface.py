@@ -10,6 +10,8 @@ OCTETS, FLOATS = c.POINTER(c.c_uint8), c.POINTER(FLOAT)
 SIGNATURES = {
     "uramsheg_levels": [OCTETS, SIZE, SIZE, SIZE, SIZE, *[FLOATS, SIZE] * 5],
     "uramsheg_detect": [OCTETS, SIZE, *[FLOAT] * 5, SIZE, SIZE, SIZE, *[FLOATS, SIZE] * 4, OCTETS, SIZE, U64],
+    "uramsheg_feed_start": [OCTETS, SIZE, *[FLOAT] * 5, SIZE, SIZE, SIZE, *[FLOATS, SIZE] * 4, OCTETS, SIZE],
+    "uramsheg_feed_column": [OCTETS, SIZE, *[FLOATS, SIZE] * 8, OCTETS, SIZE, U64],
     "uramsheg_join": [OCTETS, SIZE, SIZE, SIZE, OCTETS, SIZE, OCTETS, SIZE, U64],
     "uramsheg_correct": [OCTETS, SIZE, *[FLOAT] * 5, c.c_bool, FLOATS, U64],
     "uramsheg_octave_count": [SIZE, SIZE],
@@ -49,6 +51,32 @@ def detect(record, thresholds, levels, octave, room, shape=None):
     slices = [part for level in levels for part in by_columns(level)]
     number = library.uramsheg_detect(*octets(record), *thresholds, rows, cols, octave, *slices, out, 40 * room, value)
     return number, value.value, bytes(out)[: 40 * room]
+
+
+class Feed:
+    """A feed whose ring has room for as many floats in each slice, all 7 before the start, and whose state has `room` bytes, all 0xa5; `number` is the
+    start's."""
+
+    def __init__(self, record, thresholds, shape, octave, lengths, room=564):
+        self.lengths, self.room = lengths, room
+        self.ring = [(FLOAT * max(length, 1))(*[7] * max(length, 1)) for length in lengths]
+        self.state = (c.c_uint8 * max(room, 1))(*[0xA5] * max(room, 1))
+        self.number = library.uramsheg_feed_start(*octets(record), *thresholds, *shape, octave, *self.slices(), self.state, room)
+
+    def slices(self):
+        """The ring's four slices."""
+        return [part for floats, length in zip(self.ring, self.lengths) for part in (floats, length)]
+
+    def column(self, columns, room):
+        """The number, the value and the bytes of `out`, which has room for as many records and holds 0xa5 before the call."""
+        out, value = (c.c_uint8 * max(40 * room, 1))(*[0xA5] * max(40 * room, 1)), c.c_uint64(77)
+        given = [part for column in columns for part in ((FLOAT * max(len(column), 1))(*map(float, column)), len(column))]
+        number = library.uramsheg_feed_column(self.state, self.room, *given, *self.slices(), out, 40 * room, value)
+        return number, value.value, bytes(out)[: 40 * room]
+
+    def held(self):
+        """The bytes of the state and of the ring."""
+        return bytes(self.state)[: self.room], [bytes(floats)[: 4 * length] for floats, length in zip(self.ring, self.lengths)]
 
 
 def join(record, shape, listed, room):

@@ -7,11 +7,13 @@ import pytest
 
 import uramsheg as u
 from uramsheg._native import lib
+from uramsheg.records import FEED
 
 HEADER = (cface.ROOT / "include" / "uramsheg.h").read_text()
 
 
-@pytest.mark.parametrize("kind, width", [(u.SET, lib.URAMSHEG_SET_BYTES), (u.SPOT, lib.URAMSHEG_SPOT_BYTES), (u.SIZED, lib.URAMSHEG_SIZED_BYTES)])
+@pytest.mark.parametrize("kind, width", [(u.SET, lib.URAMSHEG_SET_BYTES), (u.SPOT, lib.URAMSHEG_SPOT_BYTES), (u.SIZED, lib.URAMSHEG_SIZED_BYTES),
+                                         (FEED, lib.URAMSHEG_FEED_BYTES)])
 def test_every_byte_has_a_name(kind, width):
     assert kind.itemsize == width == sum(kind[name].itemsize for name in kind.names)
     assert [kind.fields[name][1] for name in kind.names] == [sum(kind[before].itemsize for before in kind.names[:place]) for place in range(len(kind.names))]
@@ -24,6 +26,13 @@ def test_the_places_are_the_header_s():
             "spare": r"(\d+) zero\n", "size": r"(\d+) corrected sigma f32", "row": r"(\d+) home row u16", "col": r"(\d+) home col u16",
             "accepted": r"(\d+) accepted", "cause": r"(\d+) cause", "spare_sized": r"(\d+) 51 zero"}
     assert {name: int(re.search(pattern, HEADER)[1]) for name, pattern in said.items()} == places
+
+
+def test_the_places_of_a_state_are_the_header_s():
+    text = HEADER[HEADER.index("The state (little-endian)"):]
+    said = {"set": r"(\d+) the set record", "thresholds": r"(\d+) peak threshold, 532 sigma threshold, 536 curvature ratio, 540 window low, 544 window high",
+            "rows": r"(\d+) rows", "cols": r"(\d+) cols", "position": r"(\d+) position", "octave": r"(\d+) octave", "spare": r"(\d+) 562 563 zero"}
+    assert {name: int(re.search(pattern, text)[1]) for name, pattern in said.items()} == {name: FEED.fields[name][1] for name in FEED.names}
 
 
 def test_chosen_records_keep_every_byte(m):

@@ -31,7 +31,7 @@ def refused(kind, call, *given, **named):
 
 def test_each_number_of_the_header_has_a_class():
     named = {getattr(lib, name) for name in dir(lib) if name.startswith("URAMSHEG_REFUSED_")}
-    assert named == set(refusals.REFUSALS) == set(range(1, 9))
+    assert named == set(refusals.REFUSALS) == set(range(1, 10))
     for kind in refusals.REFUSALS.values():
         assert issubclass(kind, u.Refused) and issubclass(kind, ValueError) and kind.why and getattr(u, kind.__name__) is kind
 
@@ -192,7 +192,7 @@ def test_thresholds_that_are_no_numbers_are_the_c_face_s_matter(given):
 
 
 @pytest.mark.parametrize("error", [u.SizeRefused("5000 by 3"), u.RecordsRefused("record 3", 3), u.ThresholdsRefused(["peak", "low"]), u.NoSizeRefused(1),
-                                   u.NoSizeRefused(2)])
+                                   u.NoSizeRefused(2), u.PastRefused("90 of 90")])
 def test_a_refusal_travels_between_processes(error):
     for again in (pickle.loads(pickle.dumps(error)), copy.copy(error)):
         assert (type(again), str(again), vars(again), again.args) == (type(error), str(error), vars(error), error.args)

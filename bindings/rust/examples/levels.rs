@@ -1,6 +1,8 @@
 //! From a raw map to sizes: `levels SET MAP.csv` makes the map's four levels under a set record and lists their spots. A line of the map is a row, its
 //! numbers parted by commas; nan is a lost pixel.
 
+mod common;
+
 use uramsheg::{Map, Thresholds};
 
 /// All but `peak` have the values that the published text states.
@@ -18,20 +20,7 @@ fn main() -> Result<(), Box<dyn std::error::Error>> {
         return Err("use: levels SET MAP.csv".into());
     };
     let set = std::fs::read(set)?;
-    let text = std::fs::read_to_string(map)?;
-    let lines: Vec<Vec<f32>> = text
-        .lines()
-        .map(|line| line.split(',').map(str::parse).collect())
-        .collect::<Result<_, _>>()?;
-    let (rows, cols) = (lines.len(), lines.first().map_or(0, Vec::len));
-    if lines.iter().any(|line| line.len() != cols) {
-        return Err("the map's lines are not all of one length".into());
-    }
-    // by columns
-    let raw: Vec<f32> = (0..rows * cols)
-        .map(|place| lines[place % rows][place / rows])
-        .collect();
-
+    let (rows, cols, raw) = common::read_map(map)?;
     let lost = |floats: &[f32]| floats.iter().filter(|pixel| !pixel.is_finite()).count();
     println!("{rows} rows by {cols} cols, {} lost", lost(&raw));
     let levels = uramsheg::four_levels(&set, rows, cols, 0, &raw)?;

@@ -1,5 +1,6 @@
 """Uramsheg: the spots of a gas map that stand out at one size. Every call ends, whatever it is given; a refused one raises a `Refused`."""
 from .detector import Thresholds, correct, detect, downsample, join, levels, octave_count, read_set
+from .feed import Feed
 from .filling import fill
 from .finding import FOUND, Found, Judged, find
 from .grid import Grid
@@ -9,6 +10,7 @@ from .refusals import (
     LevelRefused,
     NoSizeRefused,
     OctaveRefused,
+    PastRefused,
     RecordsRefused,
     Refused,
     RoomRefused,
@@ -23,7 +25,7 @@ size = join
 
 __version__ = "0.1.0"
 __all__ = [
-    "FOUND", "Found", "Grid", "Judged", "LevelRefused", "NO_SIZE", "NoSizeRefused", "OctaveRefused", "RecordsRefused", "Refused", "RoomRefused", "SET",
-    "SIZED", "SPOT", "SetRefused", "SizeRefused", "Tables", "TablesFault", "Thresholds", "ThresholdsRefused", "correct", "detect", "downsample", "fill",
-    "find", "join", "levels", "octave_count", "read_set", "size", "standard",
+    "FOUND", "Feed", "Found", "Grid", "Judged", "LevelRefused", "NO_SIZE", "NoSizeRefused", "OctaveRefused", "PastRefused", "RecordsRefused", "Refused",
+    "RoomRefused", "SET", "SIZED", "SPOT", "SetRefused", "SizeRefused", "Tables", "TablesFault", "Thresholds", "ThresholdsRefused", "correct", "detect",
+    "downsample", "fill", "find", "join", "levels", "octave_count", "read_set", "size", "standard",
 ]

@@ -6,11 +6,11 @@ import numpy as np
 from ._native import ffi
 
 
-def level(values, what="level"):
+def level(values, what="level", sides=2):
     """Values as a level, or as a map: the array itself where it is float32, native, aligned and Fortran-ordered, else a copy. Masked pixels become NaN."""
     array = np.asanyarray(values)
-    if array.ndim != 2:
-        raise TypeError(f"a {what} is a 2-d array, not one of shape {array.shape}")
+    if array.ndim != sides:
+        raise TypeError(f"a {what} is a {sides}-d array, not one of shape {array.shape}")
     if array.dtype.kind not in "fiu":
         raise TypeError(f"a {what} holds real numbers, not {array.dtype}")
     if np.ma.isMaskedArray(array):
@@ -21,6 +21,11 @@ def level(values, what="level"):
         return array
     with np.errstate(over="ignore", invalid="ignore"):
         return np.array(array, dtype=np.float32, order="F")
+
+
+def column(values):
+    """Values as a column of a level, copied where a level would be."""
+    return level(values, "column", 1)
 
 
 def floats(array):

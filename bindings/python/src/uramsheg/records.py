@@ -25,6 +25,12 @@ SPOT = np.dtype([
 #: `col` nearest to y and x, a half to the larger
 SIZED = np.dtype(SPOT.descr + [("size", "<f4"), ("row", "<u2"), ("col", "<u2"), ("accepted", "?"), ("cause", "u1"), ("spare_sized", "u1", (2,))])
 
-for kind, width in ((SET, lib.URAMSHEG_SET_BYTES), (SPOT, lib.URAMSHEG_SPOT_BYTES), (SIZED, lib.URAMSHEG_SIZED_BYTES)):
+#: the state of a feed: how it was started, and `position`, the number of columns that it has taken
+FEED = np.dtype([
+    ("set", SET), ("thresholds", "<f4", (5,)), ("rows", "<u4"), ("cols", "<u4"), ("position", "<u4"), ("octave", "u1"), ("spare", "u1", (3,)),
+])
+
+for kind, width in ((SET, lib.URAMSHEG_SET_BYTES), (SPOT, lib.URAMSHEG_SPOT_BYTES), (SIZED, lib.URAMSHEG_SIZED_BYTES),
+                    (FEED, lib.URAMSHEG_FEED_BYTES)):
     if kind.itemsize != width:
         raise ImportError(f"a record of {kind.itemsize} bytes has {width} in uramsheg.h: build the package and its archive from one")

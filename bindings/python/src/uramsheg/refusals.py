@@ -26,10 +26,10 @@ class SizeRefused(Refused):
 
 
 class LevelRefused(Refused):
-    """The levels are not of one shape."""
+    """The levels are not of one shape, or a feed's columns not as long as the feed has rows."""
 
     number = lib.URAMSHEG_REFUSED_LEVEL
-    why = "the four levels must have one shape"
+    why = "the four levels must have one shape, a feed's four columns a pixel for each row"
 
 
 class OctaveRefused(Refused):
@@ -85,6 +85,13 @@ class ThresholdsRefused(Refused):
         super().__init__(", ".join(names))
         self.args = (tuple(names),)
         self.names = tuple(names)
+
+
+class PastRefused(Refused):
+    """All columns of the feed have come."""
+
+    number = lib.URAMSHEG_REFUSED_PAST
+    why = "all columns of the feed have come: start another feed for the next map"
 
 
 #: the classes by their numbers
