@@ -51,7 +51,7 @@ fn samples_of<'a>(
 }
 
 // The place of a row of column n in the ring.
-fn slot(n: usize, rows: usize, row: usize) -> usize
+pub fn slot(n: usize, rows: usize, row: usize) -> usize
     requires { ⌜ (rows ≤ 4096) × (row < rows) ⌝ }
     ensures { λ r. ⌜ (r ≡ slotOf rows n + row) × (row ≤ r) × (r + rows ≤ 5 * rows + row) ⌝ }
 {

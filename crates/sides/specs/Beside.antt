@@ -2,16 +2,18 @@
 -- it in that at 260, of the one after it in that at 520. Nothing here stands in a promise of an entry. Definitions only.
 use Prim.Native.Nat.{ℕ, zero, suc, _+_, _%_, _≤_, _<_}
 use mathlib.Core.Path.{_≡_}
-use mathlib.Core.Bool.{Bool, _||_}
+use mathlib.Core.Bool.{Bool, not, _&&_, _||_}
 use mathlib.Core.List.{List, [], _∷_}
 use lib.Dec.{leb}
 use lib.ListN.{length, getD}
-use lib.Ieee.{Float}
+use lib.Ieee.{Float, lt}
+use Rattle.float.specs.Small.{absOf}
+use Rattle.float.specs.Num.{f1e-10}
 use Rattle.tables.specs.declared.Set.{Set}
 use Rattle.tables.specs.declared.Thresholds.{Thresholds}
 use Rattle.fit.specs.Cubic.{_at_, coeffsOf}
 use Rattle.fit.specs.Band.{signOf, bandOf}
-use Rattle.refine.specs.Refine.{refineOf}
+use Rattle.refine.specs.Refine.{denominatorOf, steepOf, deltaYOf, deltaXOf, nearby, refineOf}
 use Rattle.pixel.specs.Verdict.{verdictOf}
 use Rattle.pixel.specs.declared.Frame.{Frame}
 use Rattle.pixel.specs.declared.Verdict.the-variants.{Nothing}
@@ -38,6 +40,11 @@ besideOf g e a b c d p v =
     let h = e % 780 in
     (endsAt a b c d sign val band (260 + h) || endsAt a b c d sign val band (260 + h + 1) || endsAt a b c d sign val band (260 + h + 2))
     || (endsAt a b c d sign val band (520 + h) || endsAt a b c d sign val band (520 + h + 1) || endsAt a b c d sign val band (520 + h + 2))
+
+-- all tests of the displacement by the fit's five numbers
+unfoldable pub placesOf : List Float → Bool → Bool
+placesOf w isMax =
+    not (lt (denominatorOf w) f1e-10) && (not (lt (absOf (w at 0)) f1e-10) && (steepOf w isMax && (nearby (deltaXOf w (deltaYOf w)) && nearby (deltaYOf w))))
 
 -- the refinement accepts it
 unfoldable pub takenOf : Set → Float → ℕ → List Float → List Float → List Float → List Float → List Float → Bool

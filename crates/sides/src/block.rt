@@ -3,6 +3,7 @@ ghost use mathlib.Core.Path.{_≡_};
 ghost use Prim.Native.Nat.{ℕ, _+_, _≤_, _<_};
 ghost use lib.ListN.{length, getD};
 ghost use Rattle.samples.specs.Four.{fourOf};
+ghost use Rattle.gather.specs.Gather.{Long};
 ghost use Rattle.slots.specs.Column.{Rings};
 ghost use Rattle.rivals.specs.Ready.{Slot};
 ghost use Rattle.sides.specs.Beside.{threeOf, Left, Beside};
@@ -49,15 +50,60 @@ fn listed<'a>(
     requires { ⌜ Slot set th (threeOf (fourOf (now r0) (now r1) (now r2) (now r3)) (fourOf (now c0) (now c1) (now c2) (now c3)) u x y z t (set .sigmas) 1) 0 (n + 2)
         (now a) (now b) (now c) (now d) (now p) (now v) (now w) ⌝ }
     ensures { λ r. ⌜ Left set th (threeOf (fourOf (now (r0 .entry)) (now (r1 .entry)) (now (r2 .entry)) (now (r3 .entry)))
-        (fourOf (now (c0 .entry)) (now (c1 .entry)) (now (c2 .entry)) (now (c3 .entry))) u x y z t (set .sigmas)) n (now (keep .exit)) ⌝ }
+        (fourOf (now (c0 .entry)) (now (c1 .entry)) (now (c2 .entry)) (now (c3 .entry))) u x y z t (set .sigmas)) n (now (keep .exit))
+        × Long (now (a .exit)) (now (b .exit)) (now (c .exit)) (now (d .exit)) ⌝ }
 {
     let mut codes = [0u32; 512];
     let g = set.sigmas;
     open_line(0, w, keep);
     let m = pack_line(n, 0, w, &mut codes);
     let k = own_list(g, m, a, b, c, d, p, v, &mut codes);
-    fill_list(r0, r1, r2, r3, r0, r1, r2, r3, u, x, y, g, &set.scale, n, k, 260, &codes, a, b, c, d);
-    fill_list(r0, r1, r2, r3, c0, c1, c2, c3, y, z, t, g, &set.scale, n, k, 520, &codes, a, b, c, d);
+    fill_list(
+        r0,
+        r1,
+        r2,
+        r3,
+        r0,
+        r1,
+        r2,
+        r3,
+        u,
+        x,
+        y,
+        g,
+        &set.scale,
+        n,
+        k,
+        260,
+        &codes,
+        a,
+        b,
+        c,
+        d,
+    );
+    fill_list(
+        r0,
+        r1,
+        r2,
+        r3,
+        c0,
+        c1,
+        c2,
+        c3,
+        y,
+        z,
+        t,
+        g,
+        &set.scale,
+        n,
+        k,
+        520,
+        &codes,
+        a,
+        b,
+        c,
+        d,
+    );
     let o = side_list(g, k, a, b, c, d, p, v, &mut codes);
     accept_list(set, th.ratio, o, a, b, c, d, p, &codes, keep);
 }
@@ -97,10 +143,54 @@ pub fn mark_block<'a>(
         (fourOf (now (c0 .entry)) (now (c1 .entry)) (now (c2 .entry)) (now (c3 .entry))) u x y z t (set .sigmas)) n (now (keep .exit))
         × Rings (now (a .exit)) (now (b .exit)) (now (c .exit)) (now (d .exit)) (now (p .exit)) (now (v .exit)) (now (w .exit)) ⌝ }
 {
-    let any = own_lines(r0, r1, r2, r3, x, y, z, set, th, n + 2, 0, a, b, c, d, p, v, w);
+    let any = own_lines(
+        r0,
+        r1,
+        r2,
+        r3,
+        x,
+        y,
+        z,
+        set,
+        th,
+        n + 2,
+        0,
+        a,
+        b,
+        c,
+        d,
+        p,
+        v,
+        w,
+    );
     if any == 0 {
         open_line(0, w, keep);
         return;
     }
-    listed(r0, r1, r2, r3, c0, c1, c2, c3, u, x, y, z, t, set, th, n, a, b, c, d, p, v, w, keep);
+    listed(
+        r0,
+        r1,
+        r2,
+        r3,
+        c0,
+        c1,
+        c2,
+        c3,
+        u,
+        x,
+        y,
+        z,
+        t,
+        set,
+        th,
+        n,
+        a,
+        b,
+        c,
+        d,
+        p,
+        v,
+        w,
+        keep,
+    );
 }

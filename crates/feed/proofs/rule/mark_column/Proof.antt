@@ -1,44 +1,76 @@
--- `rule::mark_column` meets its contract.
-use mathlib.Core.Path.{_≡_, refl, _∙_}
-use Prim.Native.Nat.{ℕ, _-_, _≤_, _<_}
-use native.Mathlib.Nat.{not-suc-le-zero, ne-of-lt}
+-- `rule::mark_column` meets its contract. The loop's invariant: the marks of the pixels before the j-th are put.
+use mathlib.Core.Path.{_≡_, refl}
+use Prim.Native.Nat.{_-_}
 use native.Mathlib.Omega.{arith}
-use lib.ListN.{length, getD, set, length-set}
-use lib.Seq.{getD-set-same, getD-set-other}
-use borrow.Author.Count.{below-more}
-use Rattle.feed.proofs.SpotsLaws.{height-most}
+use lib.ListN.{length}
+use Rattle.samples.specs.Four.{fourOf}
+use Rattle.slots.specs.Column.{Rings}
+use Rattle.feed.proofs.RuleLaws.{block-room, RuledTo, ruled-none, ruled-more, ruled-all}
 use Rattle.feed.proofs.rule.mark_column.Statement.{statement}
 use Rattle.feed.proofs.rule.mark_column.Tie as tie
 
 abbrev Inv-loop : tie.InvT-loop
-Inv-loop r0 r1 r2 r3 c0 c1 c2 c3 n marks₀ i₀ marks i = (i ≤ n) × (length marks ≡ 4096) × ((k : ℕ) → k < i → getD marks k 0 ≡ 1)
+Inv-loop r0 r1 r2 r3 c0 c1 c2 c3 s n marks₀ a₀ b₀ c₀ d₀ p₀ v₀ w₀ keep₀ j₀ marks a b c d p v w keep j =
+    RuledTo s (fourOf r0 r1 r2 r3) (fourOf c0 c1 c2 c3) n j marks × (length keep ≡ 256) × Rings a b c d p v w
 
 abbrev μ-loop : tie.MeasureT-loop
-μ-loop r0 r1 r2 r3 c0 c1 c2 c3 n marks₀ i₀ marks i = n - i
+μ-loop r0 r1 r2 r3 c0 c1 c2 c3 s n marks₀ a₀ b₀ c₀ d₀ p₀ v₀ w₀ keep₀ j₀ marks a b c d p v w keep j = n - j
 
 loop-holds : tie.Need-loop-holds Inv-loop μ-loop
-loop-holds c = (omega arith, c .pre .1 .1 .1, λ k h. absurd (not-suc-le-zero h))
+loop-holds c = (ruled-none _ _ _ _ (c .before .before .before .before .before .before .before .before .pre .1 .1 .1), refl, record { first = refl; second = refl; third = refl; fourth = refl; points = refl; values = refl; words = refl })
 
-element-write-marks : tie.Need-element-write-marks Inv-loop μ-loop
-element-write-marks c = let p = c .before .before .pre in omega (arith, p .1 .1 .0, height-most (c .before .before .args .s), p .0 .rows-most)
+sub-block-height : tie.Need-sub-block-height Inv-loop μ-loop
+sub-block-height c = omega arith
 
-add-i : tie.Need-add-i Inv-loop μ-loop
-add-i c = let p = c .before .before .pre in omega (arith, p .1 .1 .0, height-most (c .before .before .args .s), p .0 .rows-most)
+block-height-requires : tie.Need-block-height-requires Inv-loop μ-loop
+block-height-requires c κs = tt
+
+block-requires : tie.Need-block-requires Inv-loop μ-loop
+block-requires c κs =
+    let start = c .before .before .before .before .before .before .before .before .before .before .before .before .before .before .before .before .before .before .before in
+    let l = c .before .before .before .before .before .before .before .before .before .before .loop in
+    let height = c .before .before .before .before .before .before .before .before .block-height in
+    let room = block-room (start .args .s) (start .args .n) (l .j) (height .result) (start .pre .1 .1 .0) (c .before .before .before .before .before .before .before .before .before .loop-test .taken) (height .ensures .0) in
+    (start .pre .0, ((room .0, start .pre .1 .0 .1), ((height .ensures .1, room .1), (l .inv .1, l .inv .2))))
+
+put-marks-requires : tie.Need-put-marks-requires Inv-loop μ-loop
+put-marks-requires c κs =
+    let start = c .before .before .before .before .before .before .before .before .before .before .before .before .before .before .before .before .before .before .before .before .before .before in
+    let l = c .before .before .before .before .before .before .before .before .before .before .before .before .before .loop in
+    let height = c .before .before .before .before .before .before .before .before .before .before .before .block-height in
+    let room = block-room (start .args .s) (start .args .n) (l .j) (height .result) (start .pre .1 .1 .0) (c .before .before .before .before .before .before .before .before .before .before .before .before .loop-test .taken) (height .ensures .0) in
+    ((omega (arith, height .ensures .1), omega (arith, room .1, start .pre .0 .rows-most)), l .inv .0 .long)
+
+add-j : tie.Need-add-j Inv-loop μ-loop
+add-j c =
+    let start = c .before .before .before .before .before .before .before .before .before .before .before .before .before .before .before .before .before .before .before .before .before .before .before in
+    let height = c .before .before .before .before .before .before .before .before .before .before .before .before .block-height in
+    let room = block-room (start .args .s) (start .args .n) (c .before .before .before .before .before .before .before .before .before .before .before .before .before .before .loop .j) (height .result) (start .pre .1 .1 .0) (c .before .before .before .before .before .before .before .before .before .before .before .before .before .loop-test .taken) (height .ensures .0) in
+    omega (arith, room .1, start .pre .0 .rows-most)
 
 loop-less : tie.Need-loop-less Inv-loop μ-loop
-loop-less c = omega arith
+loop-less c = omega (arith, c .before .before .before .before .before .before .before .before .before .before .before .before .before .loop-test .taken)
 
 loop-again : tie.Need-loop-again Inv-loop μ-loop
 loop-again c =
-    let l = c .before .loop in
-    let p = c .before .before .pre in
-    let inside : l .i < length (l .marks) = omega (arith, l .inv .1, c .loop-test .taken, p .1 .1 .0, height-most (c .before .before .args .s), p .0 .rows-most) in
-    (omega arith, length-set (l .marks) (l .i) 1 ∙ l .inv .1, below-more (λ k. getD (set (l .marks) (l .i) 1) k 0 ≡ 1) (l .i) (λ k h. getD-set-other (l .marks) (l .i) k 1 0 (ne-of-lt h) ∙ l .inv .2 k h) (getD-set-same (l .marks) (l .i) 1 0 inside))
+    let block = c .before .before .before .block .ensures in
+    (ruled-more (c .before .before .before .before .before .before .before .before .before .before .before .before .before .before .loop .inv .0) (c .before .before .before .before .before .before .before .before .before .before .before .before .block-height .ensures .2) (block .0) (c .put-marks .ensures), block .0 .long, block .1)
 
 returns : tie.Need-returns Inv-loop μ-loop
-returns c =
-    let l = c .before .loop in
-    record { long = l .inv .1; ruled = λ i h e. let one = l .inv .2 i (omega arith) in let z : ⊥ = omega arith in absurd z }
+returns c = ruled-all (omega (arith, c .loop-test .left)) (c .before .loop .inv .0)
 
 pub mark-column-spec : {M : Type 1} → statement M
-mark-column-spec = tie.close (tie.spec Inv-loop μ-loop loop-holds element-write-marks add-i loop-less loop-again returns)
+mark-column-spec =
+    tie.close
+    (tie.spec
+    Inv-loop
+    μ-loop
+    loop-holds
+    sub-block-height
+    block-height-requires
+    block-requires
+    put-marks-requires
+    add-j
+    loop-less
+    loop-again
+    returns)
