@@ -1,4 +1,4 @@
-/* From C: how many bytes of stack levels and detection take, each on a painted stack of its own. PROCESSOR and a set's file are given; says what failed. */
+/* From C: how many bytes of stack levels, detection and the feed take, each on a painted stack of its own. PROCESSOR and a set's file are given; says what failed. */
 #define _XOPEN_SOURCE 700
 #include <math.h>
 #include <stdint.h>
@@ -33,20 +33,38 @@ static bool detected(float low, float high) {
     return number == 0;
 }
 
+static bool fed(float low, float high) {
+    static float ring[4][URAMSHEG_RING_COLUMNS * SIDE];
+    static uint8_t state[URAMSHEG_FEED_BYTES];
+    uint64_t found = 0;
+    uint32_t number = uramsheg_feed_start(set, sizeof set, 0, 0, 12.1f, low, high, SIDE, SIDE, 0, ring[0], URAMSHEG_RING_COLUMNS * SIDE, ring[1], URAMSHEG_RING_COLUMNS * SIDE,
+                                          ring[2], URAMSHEG_RING_COLUMNS * SIDE, ring[3], URAMSHEG_RING_COLUMNS * SIDE, state, sizeof state);
+    for (int c = 0; c < SIDE && number == 0; c++, spots += found)
+        number = uramsheg_feed_column(state, sizeof state, level[0] + c * SIDE, SIDE, level[1] + c * SIDE, SIDE, level[2] + c * SIDE, SIDE, level[3] + c * SIDE, SIDE,
+                                      ring[0], URAMSHEG_RING_COLUMNS * SIDE, ring[1], URAMSHEG_RING_COLUMNS * SIDE, ring[2], URAMSHEG_RING_COLUMNS * SIDE,
+                                      ring[3], URAMSHEG_RING_COLUMNS * SIDE, list, sizeof list, &found);
+    return number == 0;
+}
+
 /* Noise of four heights, some of it lost; under a usual window, and under one that holds 0, by which the pass rules next to nothing out. */
-static void detection(void) {
+static void noise(bool (*judged)(float low, float high)) {
     static const float heights[4] = {1, 1e-3f, 1e-18f, 1e-40f};
     uint32_t state = 1;
     is_done = true;
+    spots = 0;
     for (int run = 0; run < 4; run++) {
         for (int i = 0; i < 4 * SIDE * SIDE; i++) {
             state = state * 1664525 + 1013904223;
             level[i % 4][i / 4] = state >> 24 ? ((float)(state >> 8) / 8388608 - 1) * heights[run] : NAN;
         }
-        is_done = is_done && detected(1.9f, 4.1f) && detected(-1, 9);
+        is_done = is_done && judged(1.9f, 4.1f) && judged(-1, 9);
     }
     is_done = is_done && spots > 0;
 }
+
+static void detection(void) { noise(detected); }
+
+static void feed(void) { noise(fed); }
 
 /* The bytes that a call takes of the stack, which is painted before. */
 static size_t taken_by(void (*call)(void)) {
@@ -75,5 +93,6 @@ int main(int count, char **words) {
     if (!file || fread(set, 1, sizeof set, file) != sizeof set) return 2;
     fclose(file);
     bool held = holds(words[1], "levels", levels, 51200);
-    return !(holds(words[1], "detection", detection, 262144) && held);
+    held = holds(words[1], "detection", detection, 262144) && held;
+    return !(holds(words[1], "the feed", feed, 65536) && held);
 }
