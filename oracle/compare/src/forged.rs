@@ -151,8 +151,10 @@ fn most(feed: &Feed) -> usize {
     }
 }
 
-fn bits(ring: &[f32]) -> Vec<u32> {
-    ring.iter().map(|pixel| pixel.to_bits()).collect()
+/// Whether two buffers hold the same patterns.
+fn same(one: &[f32], other: &[f32]) -> bool {
+    let pairs = one.iter().zip(other);
+    one.len() == other.len() && pairs.into_iter().all(|(a, b)| a.to_bits() == b.to_bits())
 }
 
 /// Whether a call that was taken left what it should: the position one more, the column in its place, everything else as it was.
@@ -162,26 +164,27 @@ fn left_well(
     given: &Given,
     count: usize,
 ) -> bool {
-    let [rows, position] = [ROWS, POSITION].map(|at| number(&before.0.state, at));
-    let mut state = before.0.state.clone();
-    state[POSITION..POSITION + 4].copy_from_slice(&(position as u32 + 1).to_le_bytes());
-    let first = position % RING * rows;
-    let rings = (0..4).all(|level| {
-        let mut ring = before.0.ring[level].clone();
-        ring[first..first + rows].copy_from_slice(&given.columns[level]);
-        bits(&ring) == bits(&after.0.ring[level])
+    let (old, new) = (&before.0.state, &after.0.state);
+    let [rows, position] = [ROWS, POSITION].map(|at| number(old, at));
+    let counted = number(new, POSITION) == position + 1
+        && old[..POSITION] == new[..POSITION]
+        && old[POSITION + 4..] == new[POSITION + 4..];
+    let (first, end) = (position % RING * rows, position % RING * rows + rows);
+    let stored = (0..4).all(|level| {
+        let (old, new) = (&before.0.ring[level], &after.0.ring[level]);
+        same(&old[..first], &new[..first])
+            && same(&given.columns[level], &new[first..end])
+            && same(&old[end..], &new[end..])
     });
-    state == after.0.state && rings && before.1[SPOT * count..] == after.1[SPOT * count..]
+    counted && stored && before.1[SPOT * count..] == after.1[SPOT * count..]
 }
 
 /// Whether nothing was written.
 fn untouched(before: &(Feed, Vec<u8>), after: &(Feed, Vec<u8>)) -> bool {
-    let rings = before.0.ring.iter().zip(&after.0.ring);
+    let mut rings = before.0.ring.iter().zip(&after.0.ring);
     before.0.state == after.0.state
         && before.1 == after.1
-        && rings
-            .into_iter()
-            .all(|(one, other)| bits(one) == bits(other))
+        && rings.all(|(one, other)| same(one, other))
 }
 
 /// What is wrong with an answer by the contract alone; a call refused for its output is made again with room for the worst case.

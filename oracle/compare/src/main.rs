@@ -36,7 +36,7 @@ const USE: &str = "use: compare own [SEED [TIMES]]
      compare run SEED TIMES PROGRAM [ARGUMENTS]
      compare archive SEED TIMES               (built with the feature `archive`; 2,000,000 corrections a time beside the families)
      compare fed SEED TIMES                   (built with the feature `archive`; every map of the families, column by column)
-     compare forged SEED TIMES                (built with the feature `archive`; 2,000,000 calls a time on forged states)
+     compare forged SEED TIMES                (built with the feature `archive`; 1,500,000 calls a time on forged states)
      compare soak SEED MAPS [FIRST]           (built with the feature `archive`; from the map of number FIRST on)
      compare probe SEED CASES_A_FUNCTION      (built with the feature `probe`)
      compare steps SEED [EVERY]               (built with the feature `probe`; every 256th pattern where EVERY is not given)
@@ -50,7 +50,7 @@ const SEED: u64 = 1;
 
 /// Calls on forged states in the bounded run.
 #[cfg(feature = "archive")]
-const FORGED: usize = 2_000_000;
+const FORGED: usize = 1_500_000;
 
 fn main() -> ExitCode {
     let arguments: Vec<String> = std::env::args().skip(1).collect();
