@@ -1,7 +1,7 @@
 -- Cases of the feed: map M given by columns, and what is refused. Definitions only.
 use Prim.Native.Nat.{ℕ, zero, suc, _*_}
 use mathlib.Core.List.{List, [], _∷_, _++_}
-use lib.ListN.{length, replicate, take, drop}
+use lib.ListN.{replicate, take, drop}
 use lib.Ieee.{Float}
 use Rattle.float.specs.Num.{f0}
 use Rattle.tables.specs.declared.Set.{Set}

@@ -1,7 +1,6 @@
 -- When a call is refused, and by what: the first of its checks that holds, by their places. Assumes nothing.
 use Prim.Native.Nat.{ℕ, _*_, _≤_}
-use mathlib.Core.Path.{_≡_, refl}
-use mathlib.Core.Bool.{false}
+use mathlib.Core.Path.{_≡_, sym, _∙_}
 use mathlib.Core.List.{List}
 use mathlib.Core.Logic.{_↔_}
 use lib.Dec.{leb}
@@ -15,28 +14,23 @@ use Rattle.tables.specs.declared.Checked.the-variants.{Fine, Bad}
 use Rattle.tables.specs.Refusal.{firstOf, First}
 use Rattle.tables.proofs.RefusalLaws.{first-refused, refused-first}
 use Rattle.feed.specs.declared.State.{State}
-use Rattle.feed.specs.declared.Started.{Started}
 use Rattle.feed.specs.declared.Answer.the-variants.{Taken, Refused}
 use Rattle.samples.specs.Four.{Four}
 use Rattle.feed.specs.Ring.{judgedSpots}
-use Rattle.feed.specs.Feed.{startChecks, startedBy, startOf, past, columnChecks, fedBy, columnOf}
+use Rattle.feed.specs.Feed.{startChecks, startOf, past, columnChecks, fedBy, columnOf}
 use Rattle.feed.proofs.SpotsLaws.{judged-short}
+use Rattle.feed.proofs.FeedLaws.{start-answer}
 
 -- ---- start
 
 module _ (set : Set) (th : Thresholds) (rows cols octave n0 n1 n2 n3 : ℕ) where
-  answer-is : (w : Checked) → startedBy w set th rows cols octave .answer ≡ w
-  unfolding startedBy
-  answer-is (Bad r) = refl
-  answer-is Fine = refl
-
   -- Start refuses with r exactly when of its checks, in the order 1, 3, 8, 4, 6, that one is the first that holds.
   pub start-refuses : (r : Refusal) → (startOf set th rows cols octave n0 n1 n2 n3 .answer ≡ Bad r) ↔ First (startChecks set th rows cols octave n0 n1 n2 n3) r
-  unfolding startOf
-  start-refuses r = (
-    λ e. first-refused (startChecks set th rows cols octave n0 n1 n2 n3) r (rw (answer-is (firstOf (startChecks set th rows cols octave n0 n1 n2 n3))) at e),
-    λ f. rw (refused-first (startChecks set th rows cols octave n0 n1 n2 n3) r f, answer-is (Bad r)),
-  )
+  start-refuses r =
+      let is = start-answer set th rows cols octave n0 n1 n2 n3 in (
+        λ e. first-refused (startChecks set th rows cols octave n0 n1 n2 n3) r (sym is ∙ e),
+        λ f. is ∙ refused-first (startChecks set th rows cols octave n0 n1 n2 n3) r f,
+      )
 
 -- ---- a column
 

@@ -1,5 +1,5 @@
 -- What a feed handed over, read back from its bytes. Assumes nothing.
-use Prim.Native.Nat.{ℕ, zero, suc, _+_, _-_, _*_, _/_, _≤_}
+use Prim.Native.Nat.{ℕ, suc, _+_, _-_, _*_, _/_, _≤_}
 use native.Mathlib.Omega.{arith}
 use mathlib.Core.Path.{_≡_, refl, sym, ap, _∙_}
 use mathlib.Core.Bool.{Bool}
@@ -24,7 +24,7 @@ use Rattle.feed.specs.Feed.{opened}
 use Rattle.fed.specs.Held.{mapOf}
 use Rattle.fed.specs.Run.{Call, stateAfter, bytesAfter, levelsAfter, with}
 use Rattle.fed.specs.Order.{columnsDue, judgedOf, inOrder}
-use Rattle.fed.proofs.Pairs.{In, stands-in, in-stands}
+use Rattle.fed.proofs.Pairs.{In, in-stands}
 use Rattle.fed.proofs.Columns.{columns-due}
 use Rattle.fed.proofs.Promise.{m, columns-list, so-far, all-handed}
 

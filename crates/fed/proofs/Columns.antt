@@ -5,7 +5,7 @@ use native.Mathlib.Nat.{eq-or-lt-of-le, eq-zero-or-pos}
 use mathlib.Core.Path.{_≡_, refl, sym, ap, _∙_}
 use mathlib.Core.Bool.{Bool, true, false}
 use mathlib.Core.Logic.{_⊎_, ⊎-elim, inl, inr}
-use mathlib.Core.List.{List, []}
+use mathlib.Core.List.{List}
 use lib.Arith.{digits-lt, digits-mod}
 use lib.Ieee.{Float}
 use Rattle.record.specs.declared.Record.{Record}
@@ -20,7 +20,7 @@ use Rattle.demands.specs.TwoMaps.{spared, keep, Lossy}
 use Rattle.demands.proofs.TwoMaps.{keep-append, pixel-two}
 use Rattle.pixel.specs.Listed.{listed}
 use Rattle.alp.specs.Due.{judgeOf, pixelDue, due}
-use Rattle.demands.specs.List.{StandsAt, Stands, Admitted, Before}
+use Rattle.demands.specs.List.{StandsAt, Admitted, Before}
 use Rattle.demands.proofs.Judge.{judged-admits, admits-judged, judged-key, judged-polarity}
 use Rattle.demands.proofs.Listed.{verdict-only, OfPixel, pixel-only, pixel-all, pixel-key, list-is, list-rises}
 use Rattle.fed.specs.Order.{columnDue, columnsDue, Sooner, inOrder}

@@ -2,7 +2,7 @@
 use Prim.Native.Nat.{ℕ, zero, suc, _+_, _-_, _*_, _/_, _%_, _≤_, _<_}
 use native.Mathlib.Nat.{mul-le-mul-right, suc-mul, eq-or-lt-of-le, eq-zero-or-pos}
 use native.Mathlib.Omega.{arith}
-use mathlib.Core.Path.{_≡_, refl, ap, _∙_}
+use mathlib.Core.Path.{_≡_, refl, _∙_}
 use mathlib.Core.Logic.{_⊎_, ⊎-elim, inl, inr}
 use mathlib.Core.List.{List}
 use lib.ListN.{length, getD}
@@ -11,14 +11,13 @@ use lib.Ieee.{Float, nan}
 use borrow.Author.Tests.{eq-eqb, ne-eqb}
 use Rattle.grid.specs.Grid.{pixelAt, Stored}
 use Rattle.grid.proofs.StoredLaws.{stored-at, stored-before, stored-past}
-use Rattle.pixel.specs.Listed.{bothListed}
 use Rattle.samples.specs.Level.{Maps, sampleAt, samplesOf, nineAt, samplesAt}
 use Rattle.samples.proofs.LevelLaws.{length-nine, nine-place, nine-built}
 use Rattle.alp.specs.Due.{pixelDue}
 use Rattle.alp.proofs.DueLaws.{pixel-both}
 use Rattle.feed.specs.declared.State.{State}
 use Rattle.samples.specs.Four.{Four}
-use Rattle.feed.specs.Ring.{frameOf, slotOf, pixelFed, sampleFed, samplesFed, nineFed, pixelSpots, columnSpots, kept, stored}
+use Rattle.feed.specs.Ring.{slotOf, pixelFed, sampleFed, samplesFed, nineFed, pixelSpots, columnSpots, kept, stored}
 use Rattle.feed.specs.Lent.{Roomy}
 use Rattle.feed.proofs.RingLaws.{slot-room}
 use Rattle.fed.specs.Held.{mapOf, Holds, Column, Held, Given}

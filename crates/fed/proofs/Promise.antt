@@ -1,15 +1,14 @@
 -- What the customer is owed of a feed: its whole list, what it has listed when it stops, and two feeds of which the second lost pixels. Assumes nothing.
-use Prim.Native.Nat.{ℕ, zero, suc, _+_, _-_, _*_, _≤_, _<_}
+use Prim.Native.Nat.{ℕ, _+_, _-_, _*_, _≤_, _<_}
 use native.Mathlib.Omega.{arith}
-use native.Mathlib.Nat.{zero-mul, zero-add, mul-comm, not-suc-le-zero}
+use native.Mathlib.Nat.{zero-mul, mul-comm, not-suc-le-zero}
 use mathlib.Core.Path.{_≡_, refl, sym, ap, _∙_}
-use mathlib.Core.Bool.{Bool, true, false, not}
+use mathlib.Core.Bool.{Bool, not}
 use mathlib.Core.Logic.{_↔_}
-use mathlib.Core.List.{List, [], _∷_, _++_, append-nil}
-use lib.Dec.{ltb}
+use mathlib.Core.List.{List, [], append-nil}
 use lib.ListN.{length}
 use lib.Ieee.{Float}
-use borrow.Author.Tests.{ltb-true, ltb-false, le-ltb, eq-eqb, not-true, not-false}
+use borrow.Author.Tests.{eq-eqb}
 use Rattle.tables.specs.declared.Set.{Set}
 use Rattle.tables.specs.declared.Thresholds.{Thresholds}
 use Rattle.tables.specs.declared.Checked.{Checked}
@@ -21,7 +20,7 @@ use Rattle.record.specs.Layout.{bytesOf}
 use Rattle.pixel.specs.declared.Frame.{Frame}
 use Rattle.samples.specs.Level.{Maps, mapsOf}
 use Rattle.alp.specs.Due.{due}
-use Rattle.checks.specs.Checks.{levelsCheck, detectChecks}
+use Rattle.checks.specs.Checks.{detectChecks}
 use Rattle.alp.specs.Detect.{detectOf, detected}
 use Rattle.demands.specs.List.{StandsAt, Stands, Admitted}
 use Rattle.demands.specs.TwoMaps.{spared, keep, Lossy}
@@ -30,14 +29,14 @@ use Rattle.demands.proofs.TwoMaps.{two-maps}
 use Rattle.feed.specs.declared.State.{State}
 use Rattle.feed.specs.declared.Started.{Started}
 use Rattle.samples.specs.Four.{Four, fourOf}
-use Rattle.feed.specs.Feed.{After, after, ringCheck, startChecks, startedBy, startOf, opened, columnOf}
+use Rattle.feed.specs.Feed.{After, after, startChecks, startedBy, startOf, opened, columnOf}
 use Rattle.feed.specs.declared.Fed.{Fed}
 use Rattle.fed.specs.Held.{mapOf, Held}
-use Rattle.fed.specs.Run.{Call, stateAfter, bytesAfter, levelAfter, levelsAfter, with}
+use Rattle.fed.specs.Run.{Call, stateAfter, bytesAfter, levelsAfter, with}
 use Rattle.fed.specs.Order.{columnsDue, judgedOf, inOrder}
-use Rattle.fed.proofs.Pairs.{In, in-stands, stands-in}
+use Rattle.fed.proofs.Pairs.{in-stands, stands-in}
 use Rattle.fed.proofs.Columns.{columns-only, columns-all, columns-once, columns-due, columns-two}
-use Rattle.fed.proofs.RunLaws.{FeedsAll, run-bytes, level-follows, level-long, position-most}
+use Rattle.fed.proofs.RunLaws.{FeedsAll, run-bytes, level-follows, level-long}
 
 -- ---- one value for each call
 

@@ -1,23 +1,22 @@
 -- A run of calls, refused ones among them: what it handed over are the spots of the judged columns. Assumes nothing.
-use Prim.Native.Nat.{ℕ, zero, suc, _+_, _-_, _*_, _≤_, _<_}
+use Prim.Native.Nat.{ℕ, _+_, _-_, _*_, _≤_}
 use native.Mathlib.Omega.{arith}
-use native.Mathlib.Nat.{add-mul, zero-add, add-assoc, not-suc-le-zero}
+use native.Mathlib.Nat.{add-mul}
 use mathlib.Core.Path.{_≡_, refl, sym, ap, _∙_}
-use mathlib.Core.Logic.{_⊎_, ⊎-elim, inl, inr}
+use mathlib.Core.Logic.{_⊎_, ⊎-elim}
 use mathlib.Core.List.{List, [], _∷_, _++_, append-assoc, append-nil}
-use lib.ListN.{length, take, getD, length-append, List·getD-append}
+use lib.ListN.{length, take, length-append, List·getD-append}
 use lib.Seq.{getD-append-add}
 use lib.Ieee.{Float, nan}
 use Rattle.record.specs.declared.Record.{Record}
-use Rattle.record.specs.Layout.{recordBytes, bytesOf}
+use Rattle.record.specs.Layout.{bytesOf}
 use Rattle.grid.specs.Grid.{pixelAt}
 use Rattle.feed.specs.declared.State.{State}
-use Rattle.feed.specs.declared.Answer.{Answer}
-use Rattle.feed.specs.declared.Answer.the-variants.{Taken, Refused}
+use Rattle.feed.specs.declared.Answer.the-variants.{Taken}
 use Rattle.samples.specs.Four.{Four}
 use Rattle.feed.specs.Ring.{judgedSpots, stored}
 use Rattle.feed.specs.Lent.{Long}
-use Rattle.feed.specs.Feed.{After, columnOf, refused, took, next}
+use Rattle.feed.specs.Feed.{After, refused, next}
 use Rattle.fed.specs.Held.{mapOf, Column, Held, Given}
 use Rattle.fed.specs.Run.{Call, leaves, handed, takenBy, stateAfter, bytesAfter, levelAfter}
 use Rattle.fed.specs.Order.{columnsDue, judgedOf}

@@ -3,20 +3,19 @@ use Prim.Native.Nat.{ℕ, suc, _+_, _-_, _*_, _%_, _≤_, _<_}
 use native.Mathlib.Nat.{mul-le-mul-right, suc-mul}
 use native.Mathlib.Numerals.{add-one}
 use native.Mathlib.Omega.{arith}
-use mathlib.Core.Path.{_≡_, refl, sym, ap, _∙_}
+use mathlib.Core.Path.{_≡_, refl, ap}
 use mathlib.Core.List.{List, [], _∷_}
 use lib.Arith.{digits-lt}
 use lib.ListN.{length, getD, set, take}
 use lib.Seq.{sets, length-take-le, take-suc}
-use lib.Ieee.{Float, nan}
+use lib.Ieee.{Float}
 use borrow.Author.Tests.{eq-eqb, ne-eqb}
 use Rattle.words.proofs.Stores.{sets-append}
 use Rattle.fit.specs.Cubic.{_at_}
 use Rattle.samples.specs.Level.{stencilOf, placesOf, nineOf}
-use Rattle.feed.specs.declared.State.{State}
 use Rattle.samples.specs.Four.{Four, samplesBy}
 use Rattle.feed.specs.Ring.{slotOf, pixelFed, sampleFed, samplesFed}
-use Rattle.feed.specs.Lent.{Roomy, Long, Lent, Around, Wide}
+use Rattle.feed.specs.Lent.{Lent, Around, Wide}
 
 -- ---- slots
 

@@ -2,7 +2,7 @@
 use Prim.Native.Nat.{ℕ, zero, suc, _+_, _-_, _*_, _≤_, _<_}
 use native.Mathlib.Numerals.{add-one}
 use native.Mathlib.Omega.{arith}
-use mathlib.Core.Path.{_≡_, refl, ap, _∙_}
+use mathlib.Core.Path.{_≡_, refl}
 use mathlib.Core.Bool.{Bool, true, false, cond}
 use mathlib.Core.List.{List, []}
 use lib.Dec.{leb, ltb, eqb}
@@ -12,7 +12,7 @@ use Rattle.float.proofs.Bools.{both}
 use Rattle.record.specs.declared.Record.{Record}
 use Rattle.pixel.proofs.ListedLaws.{both-short}
 use Rattle.feed.specs.declared.State.{State}
-use Rattle.feed.specs.Lent.{heightOf, Ruled, markedOf}
+use Rattle.feed.specs.Lent.{heightOf, markedOf}
 use Rattle.samples.specs.Four.{Four}
 use Rattle.feed.specs.Ring.{frameOf, nineFed, pixelSpots, columnSpots, judges, judgedSpots}
 

@@ -1,7 +1,7 @@
 // The pixels of a part of a column that may list something, from four columns of a ring and the one that follows them.
 ghost use mathlib.Core.Path.{_≡_};
-ghost use Prim.Native.Nat.{ℕ, _+_, _≤_, _<_};
-ghost use lib.ListN.{length, getD};
+ghost use Prim.Native.Nat.{_+_, _≤_, _<_};
+ghost use lib.ListN.{length};
 ghost use Rattle.samples.specs.Four.{fourOf};
 ghost use Rattle.gather.specs.Gather.{Long};
 ghost use Rattle.slots.specs.Column.{Rings};

@@ -2,13 +2,12 @@
 use Prim.Native.Nat.{ℕ, _+_, _≤_, _<_}
 use native.Mathlib.Omega.{arith}
 use mathlib.Core.Path.{_≡_, refl, sym, ap, _∙_}
-use mathlib.Core.Bool.{Bool, true, false, not}
+use mathlib.Core.Bool.{Bool, true, false}
 use mathlib.Core.List.{List, [], _∷_, _++_}
 use lib.ListN.{length}
 use lib.Seq.{sets}
 use borrow.Author.Tests.{lt-ltb, le-ltb, ltb-false, not-false}
-use Rattle.float.proofs.Bools.{neither}
-use Rattle.words.specs.Words.{wordBytes, wordFrom}
+use Rattle.words.specs.Words.{wordFrom}
 use Rattle.tables.specs.declared.Thresholds.{Thresholds}
 use Rattle.tables.specs.declared.SetRead.{SetRead}
 use Rattle.tables.specs.declared.Refusal.{Refusal}
@@ -21,7 +20,7 @@ use Rattle.tables.proofs.SetLaws.{read-good, good-long}
 use Rattle.tables.proofs.RefusalLaws.{unless-fine, sides-most}
 use Rattle.samples.specs.Four.{Four}
 use Rattle.feed.specs.declared.Answer.{Answer}
-use Rattle.feed.specs.declared.Answer.the-variants.{Taken, Refused}
+use Rattle.feed.specs.declared.Answer.the-variants.{Taken}
 use Rattle.feed.specs.declared.Fed.{Fed}
 use Rattle.feed.specs.declared.Started.{Started}
 use Rattle.feed.specs.Feed.{startChecks, startOf, After, after, columnOf}

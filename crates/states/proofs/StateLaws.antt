@@ -2,7 +2,7 @@
 use Prim.Native.Nat.{ℕ, zero, suc, _+_, _*_, _^_, _≤_, _<_}
 use native.Mathlib.Numerals.{add-one}
 use native.Mathlib.Omega.{arith}
-use mathlib.Core.Path.{_≡_, refl, sym, ap, _∙_}
+use mathlib.Core.Path.{_≡_, refl, sym, _∙_}
 use mathlib.Core.List.{List, [], _∷_, _++_, append-assoc}
 use lib.Dec.{T}
 use lib.ListN.{length, getD, set, take, drop, length-append, length-drop, List·getD-append}
@@ -13,7 +13,6 @@ use Rattle.words.proofs.Stores.{sets-append}
 use Rattle.words.proofs.WordsLaws.{length-wordBytes, length-floatBytes, wordFrom-append, floatFrom-append, wordFrom-wordBytes, floatFrom-floatBytes}
 use Rattle.tables.specs.declared.Thresholds.{Thresholds}
 use Rattle.tables.specs.Set.{setOf}
-use Rattle.feed.specs.declared.State.{State}
 use Rattle.feed.specs.Feed.{opened, next}
 use Rattle.states.specs.Bytes.{stateWidth, stateOf, thresholdsBytes, numbersBytes, openedBytes}
 

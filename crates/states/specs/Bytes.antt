@@ -16,7 +16,7 @@ use Rattle.samples.specs.Four.{Four}
 use Rattle.feed.specs.declared.State.{State}
 use Rattle.feed.specs.declared.Answer.{Answer}
 use Rattle.feed.specs.declared.Answer.the-variants.{Taken, Refused}
-use Rattle.feed.specs.Feed.{startChecks, After, columnOf}
+use Rattle.feed.specs.Feed.{startChecks, columnOf}
 
 -- how many bytes a state has
 abbrev pub stateWidth : ℕ

@@ -1,7 +1,6 @@
 -- `column` meets its contract, refusals and all.
 use mathlib.Core.Path.{ap, _∙_}
 use native.Mathlib.Omega.{arith}
-use Rattle.tables.specs.Refusal.{value}
 use Rattle.samples.specs.Four.{fourOf}
 use Rattle.feed.specs.declared.State.{State}
 use Rattle.feed.specs.declared.Answer.the-variants.{Taken, Refused}

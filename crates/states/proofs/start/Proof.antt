@@ -1,7 +1,7 @@
 -- `start` meets its contract.
 use native.Mathlib.Omega.{arith}
 use lib.ListN.{length}
-use Rattle.tables.specs.declared.Checked.the-variants.{Fine, Bad}
+use Rattle.tables.specs.declared.Checked.the-variants.{Fine}
 use Rattle.states.proofs.CallLaws.{own-answer, sound, start-bad, start-short, start-fine}
 use borrow.Author.Needs.{needs}
 use Rattle.states.proofs.start.Statement.{statement}

@@ -1,5 +1,4 @@
 -- `ring::nine_at` meets its contract.
-use mathlib.Core.Path.{sym, _∙_}
 use Prim.Native.Nat.{_-_}
 use native.Mathlib.Omega.{arith}
 use Rattle.samples.specs.Four.{fourOf}

@@ -1,9 +1,8 @@
 -- `ring::samples_at` meets its contract.
-use mathlib.Core.Path.{_≡_, _∙_}
-use Prim.Native.Nat.{_+_, _-_, _*_}
+use mathlib.Core.Path.{_∙_}
+use Prim.Native.Nat.{_+_, _-_}
 use native.Mathlib.Omega.{arith}
 use Rattle.samples.specs.Four.{fourOf}
-use Rattle.feed.specs.Ring.{slotOf}
 use Rattle.feed.proofs.RingLaws.{slot-same, samples-ring, samples-last}
 use borrow.Author.Needs.{needs}
 use Rattle.feed.proofs.ring.samples_at.Statement.{statement}

@@ -1,5 +1,5 @@
 -- `spots::column_spots` meets its contract. The loop's invariant: what the first i judged pixels list is laid.
-use mathlib.Core.Path.{_≡_, subst, _∙_}
+use mathlib.Core.Path.{_≡_, subst}
 use Prim.Native.Nat.{ℕ, _-_, _≤_, _<_}
 use native.Mathlib.Numerals.{add-one}
 use native.Mathlib.Omega.{arith}
@@ -7,7 +7,6 @@ use Rattle.record.specs.Layout.{Laid}
 use Rattle.record.proofs.LayoutLaws.{laid-none, laid-append, laid-length}
 use Rattle.samples.specs.Four.{fourOf}
 use Rattle.feed.specs.Ring.{columnSpots}
-use Rattle.feed.specs.Lent.{heightOf}
 use Rattle.feed.proofs.SpotsLaws.{column-short, height-some, height-most}
 use Rattle.feed.proofs.spots.column_spots.Statement.{statement}
 use Rattle.feed.proofs.spots.column_spots.Tie as tie

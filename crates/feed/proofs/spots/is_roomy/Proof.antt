@@ -1,5 +1,5 @@
 -- `spots::is_roomy` meets its contract: a marked pixel lists at most two records, any other none.
-use mathlib.Core.Path.{_≡_, sym}
+use mathlib.Core.Path.{sym}
 use Prim.Native.Nat.{_-_, _*_}
 use native.Mathlib.Omega.{arith}
 use lib.ListN.{length}

@@ -1,6 +1,6 @@
 -- `spots::marked` meets its contract. The loop's invariant: of the first i pixels k are marked.
-use mathlib.Core.Path.{_≡_, refl, sym, _∙_}
-use Prim.Native.Nat.{_+_, _-_, _≤_}
+use mathlib.Core.Path.{_≡_, refl, _∙_}
+use Prim.Native.Nat.{_-_, _≤_}
 use native.Mathlib.Omega.{arith}
 use Rattle.feed.specs.Lent.{markedOf}
 use Rattle.feed.proofs.SpotsLaws.{marked-more}
