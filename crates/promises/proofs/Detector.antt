@@ -13,7 +13,7 @@ use Rattle.tables.proofs.read_set as read-set
 use Rattle.tables.proofs.refusals.cause_of as cause-of
 use Rattle.tables.proofs.refusals.number_of as number-of
 use Rattle.tables.proofs.refusals.value_of as value-of
-use Rattle.tables.proofs.reader.set_of as set-of
+use Rattle.tables.proofs.set_of as set-of
 use Rattle.checks.proofs.sides_off as sides-off
 use Rattle.checks.proofs.levels_off as levels-off
 use Rattle.checks.proofs.octave_off as octave-off

@@ -190,7 +190,7 @@ module _ {M : Type 1} (𝓤 : URA M) (H : Heap 𝓤) (A : Atoms 𝓤) (mem : Mem
   listing-settled κs a g g' r r' ws ws' = both-told 𝓤 (λ p q. (λ i. record { low = (p .0 ∙ sym (q .0)) i; high = (p .1 ∙ sym (q .1)) i }, refl))
 
   pub lay-listing-settled : Settles 𝓤 lay-listing.ended (lay-listing.clauses 𝓤 H A mem run)
-  lay-listing-settled κs a g g' r r' ws ws' = both-told 𝓤 (λ p q. (p .count ∙ sym (q .count), ap (λ (b : List ℕ). untouched 6 (b, untouched 1 tt)) (p .bytes ∙ sym (q .bytes))))
+  lay-listing-settled κs a g g' r r' ws ws' = both-told 𝓤 (λ p q. (p .count ∙ sym (q .count), ap (λ b. untouched 6 (b, untouched 1 tt)) (p .bytes ∙ sym (q .bytes))))
 
   -- ---- the parts of the correction
 

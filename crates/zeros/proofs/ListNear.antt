@@ -10,7 +10,7 @@ use Rattle.float.specs.Num.{f0}
 use Rattle.record.specs.declared.Record.{Record}
 use Rattle.pixel.specs.declared.Verdict.{Verdict}
 use Rattle.samples.specs.Level.{Maps, nineAt}
-use Rattle.pixel.specs.Listed.{listed}
+use Rattle.pixel.specs.Listed as Listed
 use Rattle.alp.specs.Due as Due
 use Rattle.zeros.specs.Alike.{RecordNear, VerdictNear, nothing, listed, RecordsNear, none, more, withPeak, peakless}
 use Rattle.zeros.specs.Choices.{Choices, AllAllowed, allOurs, judgeBy, pixelDueBy, rowDueBy, rowsDueBy, dueBy}
@@ -22,8 +22,8 @@ append~ : {a b c d : List Record} → RecordsNear a b → RecordsNear c d → Re
 append~ none k = k
 append~ (more e h) k = more e (append~ h k)
 
-listed~ : {a b : Verdict} → VerdictNear a b → RecordsNear (listed a) (listed b)
-unfolding listed
+listed~ : {a b : Verdict} → VerdictNear a b → RecordsNear (Listed.listed a) (Listed.listed b)
+unfolding Listed.listed
 listed~ nothing = none
 listed~ (listed e) = more e none
 
