@@ -54,10 +54,10 @@ class RecordsRefused(Refused):
 
 
 class RoomRefused(Refused):
-    """The output is shorter than needed."""
+    """The output, or a feed's ring, is shorter than needed."""
 
     number = lib.URAMSHEG_REFUSED_ROOM
-    why = "the output is too short: lend a longer one"
+    why = "the output, or a feed's ring, is too short: lend a longer one"
 
 
 class NoSizeRefused(Refused):
