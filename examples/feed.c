@@ -13,7 +13,8 @@
 
 #include "uramsheg.h"
 
-enum { LONGEST = 4096, RING = URAMSHEG_RING_COLUMNS * LONGEST };
+/* The slices are 1,024 floats longer than they need be: the header says why. */
+enum { LONGEST = 4096, RING = URAMSHEG_RING_COLUMNS * LONGEST + 1024 };
 
 /* What the feed is lent: its state, a ring that is long enough for any map, and room for the records of one column, little at first. */
 static uint8_t state[URAMSHEG_FEED_BYTES];

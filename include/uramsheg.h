@@ -91,12 +91,14 @@ uint32_t uramsheg_detect(const uint8_t *set, size_t set_length,
 
 /* A feed: the spots of a map whose columns come one after the other, from a scanner say, without the whole map in memory.
  *
- * What is lent: a ring of four slices, one for each level, of 5 * rows floats each (a slice may be longer; its later floats are kept), and a state of
- * URAMSHEG_FEED_BYTES bytes. Start the feed, then give it column 0, 1, .. of each level, with the same ring and the same state each time, until all cols have
- * come. Column c is judged when c + 2 has come, so that each call answers with the records of the column two before the one that it is given; the first six
- * calls and the last two list nothing. Over a whole feed the records are those of uramsheg_detect on the same levels, bit for bit: put them in the order of
- * their keys, at one key the minimum first, and the lists are equal. A feed that stops early has listed exactly the spots of the columns judged so far.
- * A map, a set or thresholds of another kind take another feed; two feeds take two states and two rings.
+ * What is lent: a ring of four slices, one for each level, of 5 * rows floats each, and a state of URAMSHEG_FEED_BYTES bytes. A slice may be longer; its
+ * later floats are kept. On maps of 4,096 rows make each slice 1,024 floats longer: where the same rows of all levels lie a whole number of a cache's ways
+ * apart, they push each other out of it, and the feed takes up to a sixth longer. Start the feed, then give it column 0, 1, .. of each level, with the same
+ * ring and the same state each time, until all cols have come. Column c is judged when c + 2 has come, so that each call answers with the records of the
+ * column two before the one that it is given; the first six calls and the last two list nothing. Over a whole feed the records are those of uramsheg_detect
+ * on the same levels, bit for bit: put them in the order of their keys, at one key the minimum first, and the lists are equal. A feed that stops early has
+ * listed exactly the spots of the columns judged so far. A map, a set or thresholds of another kind take another feed; two feeds take two states and two
+ * rings.
  *
  * The state (little-endian): 0 the set record; 528 peak threshold, 532 sigma threshold, 536 curvature ratio, 540 window low, 544 window high (f32 each);
  * 548 rows, 552 cols, 556 position, the number of columns taken (u32 each); 560 octave; 561 562 563 zero. It has no pointer in it, so that it may be copied,
@@ -117,7 +119,7 @@ uint32_t uramsheg_feed_start(const uint8_t *set, size_t set_length,
  * Refused, it answers the number: 9 once all columns have come (or where `state` is shorter than a state), then 2 where a column is not rows long, then 6 where
  * a slice of the ring is shorter than 5 * rows or the records don't all fit in `out`. A refusal changes nothing, and *value is 0: the column may be given
  * again, with more room say, and gives what it would have given at once.
- * It takes some 60 KB of stack and no heap. The columns, the ring's slices, `state`, `out` and `value` must not overlap. */
+ * It takes at most some 64 KB of stack and no heap. The columns, the ring's slices, `state`, `out` and `value` must not overlap. */
 uint32_t uramsheg_feed_column(uint8_t *state, size_t state_length,
                               const float *column0, size_t column0_length, const float *column1, size_t column1_length,
                               const float *column2, size_t column2_length, const float *column3, size_t column3_length,

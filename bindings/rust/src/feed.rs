@@ -11,6 +11,9 @@ pub const RING_COLUMNS: usize = 5;
 
 /// The longest side.
 const LONGEST: usize = 4096;
+/// How many floats longer than five columns a slice of a `Feed`'s ring is: five columns of 4,096 rows are a whole number of a near cache's ways, so that the
+/// same rows of all levels would push each other out of it (docs/BENCHMARKS.md, the feed).
+const LONGER: usize = 1024;
 
 /// Starts a feed in lent room: `state` becomes that of a feed that has taken no column, in its first 564 bytes; later ones are kept. Each of the ring's four
 /// slices is at least 5 * rows long, and is not written yet. The calls of this feed are lent this state and this ring, and no other feed is.
@@ -128,7 +131,7 @@ impl Feed {
         let held = rows.min(LONGEST);
         let mut feed = Feed {
             state: [0; FEED_BYTES],
-            ring: [0; 4].map(|_| vec![0.0; RING_COLUMNS * held]),
+            ring: [0; 4].map(|_| vec![0.0; RING_COLUMNS * held + LONGER]),
             out: vec![0; 2 * held * SPOT_BYTES],
         };
         let ring = feed.ring.each_ref().map(Vec::as_slice);

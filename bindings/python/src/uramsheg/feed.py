@@ -12,6 +12,8 @@ from .tables import record_of
 
 #: the longest side; a longer one is refused before any room is looked at
 LONGEST = 4096
+#: how many floats longer than five columns a slice of the ring is, so that the levels of a map of 4,096 rows do not push each other out of a cache
+LONGER = 1024
 #: how many columns at a map's side are not judged
 MARGIN = 4
 
@@ -31,7 +33,7 @@ class Feed:
         given = Thresholds(*map(float, thresholds))
         rows, cols, octave = arrays.count("rows", rows), arrays.count("cols", cols), arrays.count("octave", octave)
         held = min(rows, LONGEST)
-        self._lend(np.zeros(1, FEED), np.zeros((4, lib.URAMSHEG_RING_COLUMNS * held), np.float32), held)
+        self._lend(np.zeros(1, FEED), np.zeros((4, lib.URAMSHEG_RING_COLUMNS * held + LONGER), np.float32), held)
         number = lib.uramsheg_feed_start(record, len(record), *given, rows, cols, octave, *self._slices(), *arrays.octets_to_write(self._state))
         if number:
             raise refusal(number, record=record, shapes=[(rows, cols)], thresholds=given, octave=octave)
