@@ -9,8 +9,8 @@ ghost use Rattle.samples.specs.Level.{mapsOf, Within, Sized};
 ghost use Rattle.alp.specs.Due.{pixelDue, rowDue, due};
 ghost use Rattle.sweep.specs.Ruled.{Block};
 use marks::is_marked;
+use nine::nine_at;
 use pixel::Frame;
-use samples::level;
 use sweep::block::refresh;
 use tables::Set;
 use tables::Thresholds;
@@ -36,7 +36,7 @@ fn judged<'a>(
         (pixelDue (mapsOf (now (l0 .entry)) (now (l1 .entry)) (now (l2 .entry)) (now (l3 .entry)) f set th) row col) ⌝ }
 {
     let sigmas = set.sigmas;
-    let nine = level::nine_at(l0, l1, l2, l3, f, sigmas, row, col);
+    let nine = nine_at(l0, l1, l2, l3, f, sigmas, row, col);
     pixel::listed::lay_listing(set, th, f, &nine, row, col, out, n)
 }
 

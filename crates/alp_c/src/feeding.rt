@@ -3,7 +3,7 @@ ghost use mathlib.Core.Path.{_≡_};
 ghost use lib.ListN.{length};
 ghost use Rattle.samples.specs.Four.{fourOf};
 ghost use Rattle.states.specs.Bytes.{startLeft, startBytes, columnLeft, columnBytes};
-ghost use Rattle.alp_c.specs.Face.{thresholdsOf};
+ghost use Rattle.face.specs.Face.{thresholdsOf};
 use tables::Thresholds;
 
 // Begins a feed under the set in the record set, and writes its state. Answers 0, or the refusal's number.

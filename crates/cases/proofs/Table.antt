@@ -36,7 +36,7 @@ use Rattle.levels.specs.Levels.{levelsChecks}
 use Rattle.samples.specs.Level.{stencilOf, sampleAt, samplesOf, placesOf}
 use Rattle.checks.specs.Checks.{detectChecks}
 use Rattle.pixel.specs.Listed.{listed, bothListed}
-use Rattle.feed.specs.Ring.{pixelFed, sampleFed, samplesFed, pixelSpots, columnSpots, judges, judgedSpots}
+use Rattle.ring.specs.Ring.{pixelFed, sampleFed, samplesFed, pixelSpots, columnSpots, judges, judgedSpots}
 use Rattle.feed.specs.Feed.{startChecks, startedBy, startOf, past, cramped, columnChecks, fedBy, columnOf}
 use Rattle.fed.specs.Run.{handed, stateAfter, bytesAfter}
 use Rattle.alp.specs.Due as dues

@@ -9,7 +9,7 @@ use Rattle.tables.specs.declared.Thresholds.{Thresholds}
 use Rattle.tables.specs.Refusal.{number}
 use Rattle.tables.specs.SetT.{setT}
 use Rattle.samples.specs.Four.{Four, fourOf}
-use Rattle.feed.specs.declared.State.{State}
+use Rattle.ring.specs.declared.State.{State}
 use Rattle.feed.specs.declared.Answer.{Answer}
 use Rattle.feed.specs.declared.Answer.the-variants.{Taken, Refused}
 use Rattle.feed.specs.Feed.{startOf, opened, columnOf}

@@ -13,12 +13,12 @@ use Rattle.tables.specs.declared.Checked.{Checked}
 use Rattle.tables.specs.declared.Checked.the-variants.{Fine, Bad}
 use Rattle.tables.specs.Refusal.{firstOf, First}
 use Rattle.tables.proofs.RefusalLaws.{first-refused, refused-first}
-use Rattle.feed.specs.declared.State.{State}
+use Rattle.ring.specs.declared.State.{State}
 use Rattle.feed.specs.declared.Answer.the-variants.{Taken, Refused}
 use Rattle.samples.specs.Four.{Four}
-use Rattle.feed.specs.Ring.{judgedSpots}
+use Rattle.ring.specs.Ring.{judgedSpots}
 use Rattle.feed.specs.Feed.{startChecks, startOf, past, columnChecks, fedBy, columnOf}
-use Rattle.feed.proofs.SpotsLaws.{judged-short}
+use Rattle.ring.proofs.SpotsLaws.{judged-short}
 use Rattle.feed.proofs.FeedLaws.{start-answer}
 
 -- ---- start

@@ -16,10 +16,10 @@ use Rattle.tables.specs.Refusal.{firstOf}
 use Rattle.record.specs.declared.Record.{Record}
 use Rattle.record.specs.Layout.{spotWidth, bytesOf, laid, written}
 use Rattle.record.proofs.LayoutLaws.{laid-first, laid-keeps}
-use Rattle.feed.specs.declared.State.{State}
+use Rattle.ring.specs.declared.State.{State}
 use Rattle.feed.specs.declared.Answer.the-variants.{Refused}
 use Rattle.samples.specs.Four.{Four}
-use Rattle.feed.specs.Ring.{judges, judgedSpots, columnSpots}
+use Rattle.ring.specs.Ring.{judges, judgedSpots, columnSpots}
 use Rattle.feed.specs.Feed.{columnChecks, refused, took, fedBy, columnOf}
 use Rattle.feed.proofs.FeedLaws.{Passed, passed}
 use Rattle.fed.specs.Held.{mapOf, Held, Given}

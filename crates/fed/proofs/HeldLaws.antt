@@ -15,11 +15,11 @@ use Rattle.samples.specs.Level.{Maps, sampleAt, samplesOf, nineAt, samplesAt}
 use Rattle.samples.proofs.LevelLaws.{length-nine, nine-place, nine-built}
 use Rattle.alp.specs.Due.{pixelDue}
 use Rattle.alp.proofs.DueLaws.{pixel-both}
-use Rattle.feed.specs.declared.State.{State}
+use Rattle.ring.specs.declared.State.{State}
 use Rattle.samples.specs.Four.{Four}
-use Rattle.feed.specs.Ring.{slotOf, pixelFed, sampleFed, samplesFed, nineFed, pixelSpots, columnSpots, kept, stored}
-use Rattle.feed.specs.Lent.{Roomy}
-use Rattle.feed.proofs.RingLaws.{slot-room}
+use Rattle.ring.specs.Ring.{slotOf, pixelFed, sampleFed, samplesFed, nineFed, pixelSpots, columnSpots, kept, stored}
+use Rattle.ring.specs.Lent.{Roomy}
+use Rattle.ring.proofs.RingLaws.{slot-room}
 use Rattle.fed.specs.Held.{mapOf, Holds, Column, Held, Given}
 use Rattle.fed.specs.Order.{columnDue}
 

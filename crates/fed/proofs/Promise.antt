@@ -26,7 +26,7 @@ use Rattle.demands.specs.List.{StandsAt, Stands, Admitted}
 use Rattle.demands.specs.TwoMaps.{spared, keep, Lossy}
 use Rattle.demands.proofs.Judge.{judged-admits}
 use Rattle.demands.proofs.TwoMaps.{two-maps}
-use Rattle.feed.specs.declared.State.{State}
+use Rattle.ring.specs.declared.State.{State}
 use Rattle.feed.specs.declared.Started.{Started}
 use Rattle.samples.specs.Four.{Four, fourOf}
 use Rattle.feed.specs.Feed.{After, after, startChecks, startedBy, startOf, opened, columnOf}

@@ -11,11 +11,11 @@ use lib.Ieee.{Float, nan}
 use Rattle.record.specs.declared.Record.{Record}
 use Rattle.record.specs.Layout.{bytesOf}
 use Rattle.grid.specs.Grid.{pixelAt}
-use Rattle.feed.specs.declared.State.{State}
+use Rattle.ring.specs.declared.State.{State}
 use Rattle.feed.specs.declared.Answer.the-variants.{Taken}
 use Rattle.samples.specs.Four.{Four}
-use Rattle.feed.specs.Ring.{judgedSpots, stored}
-use Rattle.feed.specs.Lent.{Long}
+use Rattle.ring.specs.Ring.{judgedSpots, stored}
+use Rattle.ring.specs.Lent.{Long}
 use Rattle.feed.specs.Feed.{After, refused, next}
 use Rattle.fed.specs.Held.{mapOf, Column, Held, Given}
 use Rattle.fed.specs.Run.{Call, leaves, handed, takenBy, stateAfter, bytesAfter, levelAfter}

@@ -6,9 +6,9 @@ use lib.ListN.{length, getD}
 use lib.Ieee.{Float, nan}
 use Rattle.grid.specs.Grid.{pixelAt}
 use Rattle.samples.specs.Level.{Maps, mapsOf}
-use Rattle.feed.specs.declared.State.{State}
+use Rattle.ring.specs.declared.State.{State}
 use Rattle.samples.specs.Four.{Four}
-use Rattle.feed.specs.Ring.{frameOf, slotOf}
+use Rattle.ring.specs.Ring.{frameOf, slotOf}
 
 -- the map of a feed whose columns make up these levels
 abbrev pub mapOf : State → Four → Maps

@@ -3,8 +3,8 @@ use Prim.Native.Nat.{ℕ, _-_, _*_, _≤_, _<_}
 use native.Mathlib.Nat.{zero-add}
 use native.Mathlib.Omega.{arith}
 use mathlib.Core.Path.{_≡_, refl, sym}
-use mathlib.Core.Bool.{true, false, not}
-use mathlib.Core.List.{List}
+use mathlib.Core.Bool.{Bool, true, false, not, cond}
+use mathlib.Core.List.{List, []}
 use lib.Dec.{ltb, leb, eqb}
 use lib.ListN.{length}
 use lib.Ieee.{Float}
@@ -19,15 +19,16 @@ use Rattle.tables.specs.Refusal.{unless, firstOf, sidesCheck, octaveCheck}
 use Rattle.tables.proofs.RefusalLaws.{unless-fine}
 use Rattle.checks.specs.Checks.{levelsCheck}
 use Rattle.record.specs.declared.Record.{Record}
-use Rattle.record.specs.Layout.{spotWidth, Laid}
+use Rattle.record.specs.Layout.{spotWidth, lay, Laid}
 use Rattle.record.proofs.LayoutLaws.{lay-laid}
-use Rattle.feed.specs.declared.State.{State}
-use Rattle.feed.specs.declared.Answer.the-variants.{Taken}
+use Rattle.ring.specs.declared.State.{State}
+use Rattle.feed.specs.declared.Answer.{Answer}
+use Rattle.feed.specs.declared.Answer.the-variants.{Taken, Refused}
 use Rattle.samples.specs.Four.{Four, fourOf}
-use Rattle.feed.specs.Ring.{columnSpots, judgedSpots, kept}
-use Rattle.feed.specs.Lent.{Roomy, Long, heightOf}
+use Rattle.ring.specs.Ring.{columnSpots, judgedSpots, kept, stored}
+use Rattle.ring.specs.Lent.{Roomy, Long, heightOf}
 use Rattle.feed.specs.Feed.{after, past, ringCheck, startChecks, startedBy, startOf, cramped, columnChecks, refused, next, fedBy, columnOf, outputOf}
-use Rattle.feed.proofs.SpotsLaws.{judged-height}
+use Rattle.ring.proofs.SpotsLaws.{judged-height}
 
 -- what a test that failed says
 pub not-past : (s : State) → past s ≡ false → (s .rows ≤ 4096) × (s .cols ≤ 4096) × (s .position < s .cols)
@@ -93,19 +94,27 @@ module _ (s : State) (given ring : Four) (out : List ℕ) (n : ℕ) (high : n �
   listed-is = rw high (sym (judged-height s ring given))
 
   -- of a column whose records do not fit
-  pub output-refused : leb (length (columnSpots s ring given (s .position - 2) n) * spotWidth) (length out) ≡ false → refused Room s ring out ≡ outputOf s given ring out
-  unfolding firstOf unless fedBy cramped
-  output-refused h = rw (lt-ltb (length out) (length (judgedSpots s ring given) * spotWidth) (leb-false _ _ (rw listed-is at h)))
+  output-refused : leb (length (columnSpots s ring given (s .position - 2) n) * spotWidth) (length out) ≡ false → {m : ℕ} {o : List ℕ} → Laid out o 0 m [] → refused Room s ring o ≡ outputOf s given ring out
+  unfolding firstOf unless fedBy cramped lay
+  output-refused h laid = rw (laid .bytes, lt-ltb (length out) (length (judgedSpots s ring given) * spotWidth) (leb-false _ _ (rw listed-is at h)))
 
   -- of one that it takes
-  pub output-took : leb (length (columnSpots s ring given (s .position - 2) n) * spotWidth) (length out) ≡ true → {m : ℕ} {st : State} {a b c d : List Float} {o : List ℕ} →
+  output-took : leb (length (columnSpots s ring given (s .position - 2) n) * spotWidth) (length out) ≡ true → {m : ℕ} {o : List ℕ} →
       Laid out o 0 m (columnSpots s ring given (s .position - 2) n)
-      → a ≡ kept (s .rows) (s .position) (ring .l0) (given .l0) → b ≡ kept (s .rows) (s .position) (ring .l1) (given .l1)
-      → c ≡ kept (s .rows) (s .position) (ring .l2) (given .l2) → d ≡ kept (s .rows) (s .position) (ring .l3) (given .l3) → st ≡ next s
-      → after (record { answer = Taken m; state = st }) (fourOf a b c d) o ≡ outputOf s given ring out
+      → after (record { answer = Taken m; state = next s }) (stored s ring given) o ≡ outputOf s given ring out
   unfolding firstOf unless fedBy cramped
-  output-took fits laid a-is b-is c-is d-is st-is =
-      rw (le-ltb (length out) (length (judgedSpots s ring given) * spotWidth) (leb-true _ _ (rw listed-is at fits)), laid .count, zero-add, st-is, a-is, b-is, c-is, d-is, laid .bytes, listed-is, lay-laid)
+  output-took fits laid =
+      rw (le-ltb (length out) (length (judgedSpots s ring given) * spotWidth) (leb-true _ _ (rw listed-is at fits)), laid .count, zero-add, laid .bytes, listed-is, lay-laid)
+
+  -- of either, by whether they fit
+  pub output-is : (fits : Bool) → fits ≡ leb (length (columnSpots s ring given (s .position - 2) n) * spotWidth) (length out) → {m : ℕ} {w : Answer} {st : State} {a b c d : List Float} {o : List ℕ} →
+      Laid out o 0 m (cond fits (columnSpots s ring given (s .position - 2) n) [])
+      → a ≡ cond fits (kept (s .rows) (s .position) (ring .l0) (given .l0)) (ring .l0) → b ≡ cond fits (kept (s .rows) (s .position) (ring .l1) (given .l1)) (ring .l1)
+      → c ≡ cond fits (kept (s .rows) (s .position) (ring .l2) (given .l2)) (ring .l2) → d ≡ cond fits (kept (s .rows) (s .position) (ring .l3) (given .l3)) (ring .l3)
+      → w ≡ cond fits (Taken m) (Refused Room) → st ≡ cond fits (next s) s
+      → after (record { answer = w; state = st }) (fourOf a b c d) o ≡ outputOf s given ring out
+  output-is false fit laid a-is b-is c-is d-is w-is st-is = rw (w-is, st-is, a-is, b-is, c-is, d-is) (output-refused (sym fit) laid)
+  output-is true fit laid a-is b-is c-is d-is w-is st-is = rw (w-is, st-is, a-is, b-is, c-is, d-is) (output-took (sym fit) laid)
 
 -- ---- start
 

@@ -1,5 +1,2 @@
--- Laws of the feed's ring and checks.
-pub mod RingLaws
-pub mod SpotsLaws
-pub mod RuleLaws
+-- Laws of the feed's calls.
 pub mod FeedLaws

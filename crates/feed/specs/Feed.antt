@@ -14,13 +14,13 @@ use Rattle.tables.specs.Refusal.{Check, _when_, firstOf, mostSide, sidesCheck, 
 use Rattle.checks.specs.Checks.{levelsCheck}
 use Rattle.record.specs.declared.Record.{Record}
 use Rattle.record.specs.Layout.{spotWidth, laid}
-use Rattle.feed.specs.declared.State.{State}
+use Rattle.ring.specs.declared.State.{State}
 use Rattle.feed.specs.declared.Started.{Started}
 use Rattle.feed.specs.declared.Answer.{Answer}
 use Rattle.feed.specs.declared.Answer.the-variants.{Taken, Refused}
 use Rattle.feed.specs.declared.Fed.{Fed}
 use Rattle.samples.specs.Four.{Four}
-use Rattle.feed.specs.Ring.{judgedSpots, stored}
+use Rattle.ring.specs.Ring.{judgedSpots, stored}
 
 -- ---- start
 

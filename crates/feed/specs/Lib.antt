@@ -1,5 +1,2 @@
--- The feed: what is read of its ring, and what a call answers and leaves. The public promises cite these.
-pub mod Ring
+-- What the feed's calls answer and leave. The public promises cite this.
 pub mod Feed
--- only inner functions cite this
-pub mod Lent

@@ -1,29 +1,19 @@
 // A feed of columns: a map is given four columns at a time, and each column is judged when two more have come.
-mod ring; // ring.rt: what is read of the ring and of the columns given, and how a column is stored
-mod rule; // rule.rt: which of its pixels may list something
-mod spots; // spots.rt: what the judged column lists
-
 ghost use mathlib.Core.Path.{_≡_};
+ghost use mathlib.Core.Bool.{cond};
 ghost use Prim.Native.Nat.{_≤_, _<_};
 ghost use lib.ListN.{length};
+ghost use Rattle.tables.specs.declared.Refusal.the-variants.{Room};
 ghost use Rattle.tables.specs.Refusal.{firstOf};
 ghost use Rattle.samples.specs.Four.{fourOf};
-ghost use Rattle.feed.specs.Lent.{Lent};
+ghost use Rattle.feed.specs.declared.Answer.the-variants.{Taken, Refused};
+ghost use Rattle.ring.specs.Lent.{Lent};
 ghost use Rattle.feed.specs.Feed.{ringCheck, startChecks, opened, startOf, past, after, next, outputOf, columnOf};
+use ring::State;
 use tables::Checked;
 use tables::Refusal;
 use tables::Set;
 use tables::Thresholds;
-
-// What a feed goes by, and how many columns it has taken. Start makes it, and each column answers the next.
-pub struct State {
-    pub set: Set,
-    pub thresholds: Thresholds,
-    pub rows: usize,
-    pub cols: usize,
-    pub octave: u8,
-    pub position: usize,
-}
 
 // What start answers: where it refuses, the state beside it takes no column.
 pub struct Started {
@@ -145,11 +135,14 @@ fn is_past(s: State) -> bool
     (4096 < s.rows) | ((4096 < s.cols) | (s.cols <= s.position))
 }
 
-// The state after one column more.
-fn advance(s: State) -> State
+// The state after a column: one more has come where it was taken.
+fn advance(taken: bool, s: State) -> State
     requires { ⌜ s .position < 4096 ⌝ }
-    ensures { λ r. ⌜ r ≡ next s ⌝ }
+    ensures { λ r. ⌜ r ≡ cond taken (next s) s ⌝ }
 {
+    if !taken {
+        return s;
+    }
     let set = s.set;
     let thresholds = s.thresholds;
     State {
@@ -162,7 +155,17 @@ fn advance(s: State) -> State
     }
 }
 
-// A column that passed the checks but the last is taken where its records fit. It is judged before it is stored.
+// What a column is answered when but its room was found good.
+fn answer_of(taken: bool, count: usize) -> Answer
+    ensures { λ r. ⌜ r ≡ cond taken (Taken count) (Refused Room) ⌝ }
+{
+    if taken {
+        return Answer::Taken(count);
+    }
+    Answer::Refused(Refusal::Room)
+}
+
+// A column that passed the checks but the last is taken where its records fit. It is judged before anything is written.
 fn taken<'a>(
     s: State,
     c0: &'a [f32],
@@ -184,21 +187,16 @@ fn taken<'a>(
     let n = spots::height(s);
     let mut marks = [0u8; 4096];
     rule::mark_column(r0, r1, r2, r3, c0, c1, c2, c3, s, n, &mut marks);
-    if !spots::is_roomy(r0, r1, r2, r3, c0, c1, c2, c3, s, n, &marks, out.len()) {
-        return Fed {
-            answer: Answer::Refused(Refusal::Room),
-            state: s,
-        };
-    }
-    let m = spots::column_spots(r0, r1, r2, r3, c0, c1, c2, c3, s, n, &marks, out);
+    let fits = spots::is_roomy(r0, r1, r2, r3, c0, c1, c2, c3, s, n, &marks, out.len());
+    let m = spots::lay_spots(fits, r0, r1, r2, r3, c0, c1, c2, c3, s, n, &marks, out);
     let slot = s.position % 5 * s.rows;
-    ring::store(r0, slot, c0);
-    ring::store(r1, slot, c1);
-    ring::store(r2, slot, c2);
-    ring::store(r3, slot, c3);
+    ring::store(fits, r0, slot, c0);
+    ring::store(fits, r1, slot, c1);
+    ring::store(fits, r2, slot, c2);
+    ring::store(fits, r3, slot, c3);
     Fed {
-        answer: Answer::Taken(m),
-        state: advance(s),
+        answer: answer_of(fits, m),
+        state: advance(fits, s),
     }
 }
 
@@ -219,13 +217,15 @@ pub fn feed_column<'a>(
         ≡ columnOf s (fourOf (now (c0 .entry)) (now (c1 .entry)) (now (c2 .entry)) (now (c3 .entry)))
         (fourOf (now (r0 .entry)) (now (r1 .entry)) (now (r2 .entry)) (now (r3 .entry))) (now (out .entry)) ⌝ }
 {
-    if is_past(s) {
+    let past = is_past(s);
+    let wrong = checks::levels_off(c0.len(), c1.len(), c2.len(), c3.len(), s.rows);
+    if past {
         return Fed {
             answer: Answer::Refused(Refusal::Past),
             state: s,
         };
     }
-    if checks::levels_off(c0.len(), c1.len(), c2.len(), c3.len(), s.rows) {
+    if wrong {
         return Fed {
             answer: Answer::Refused(Refusal::Level),
             state: s,

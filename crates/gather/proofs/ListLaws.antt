@@ -12,7 +12,8 @@ use lib.Ieee.{Float}
 use borrow.Author.Count.{below-none, below-more}
 use Rattle.samples.specs.Four.{Four}
 use Rattle.columns.specs.Stat.{cubicIn}
-use Rattle.gather.specs.Gather.{Span, Spans, Long, cubicBy, Put, Gathered}
+use Rattle.nine.specs.Nine.{Span, Spans}
+use Rattle.gather.specs.Gather.{Long, cubicBy, Put, Gathered}
 use Rattle.gather.specs.Step.{Tried, done, passed}
 
 -- ---- fewer places

@@ -9,21 +9,6 @@ use Rattle.fit.specs.Cubic.{coeffsOf}
 use Rattle.samples.specs.Four.{Four, samplesBy}
 use Rattle.columns.specs.Stat.{cubicIn}
 
--- c places from the offsets on, in a list of n and, the column after them, in one of m
-pub record Span (n m left mid right c : ℕ) : Type 0 where
-  pub up : 1 ≤ mid
-  pub down : mid + c < n
-  pub before : left + c ≤ n
-  pub behind : right + c ≤ m
-  pub small : left + mid + right ≤ 50331648
-
--- that of each of four levels
-pub record Spans (l r : Four) (left mid right c : ℕ) : Type 0 where
-  pub l0 : Span (length (l .l0)) (length (r .l0)) left mid right c
-  pub l1 : Span (length (l .l1)) (length (r .l1)) left mid right c
-  pub l2 : Span (length (l .l2)) (length (r .l2)) left mid right c
-  pub l3 : Span (length (l .l3)) (length (r .l3)) left mid right c
-
 -- four lists of 780
 pub record Long (a b c d : List Float) : Type 0 where
   pub first : length a ≡ 780

@@ -8,7 +8,8 @@ ghost use Rattle.float.specs.Num.{_⊕_, _⊖_};
 ghost use Rattle.fit.specs.Cubic.{_at_, rowOf};
 ghost use Rattle.samples.specs.Four.{fourOf};
 ghost use Rattle.columns.specs.Line.{Written};
-ghost use Rattle.gather.specs.Gather.{Spans, Long, Put, Gathered};
+ghost use Rattle.nine.specs.Nine.{Spans};
+ghost use Rattle.gather.specs.Gather.{Long, Put, Gathered};
 ghost use Rattle.gather.specs.Step.{Each, stencilBy, Rows, Tried};
 use fit::scale_fit::row;
 

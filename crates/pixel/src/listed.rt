@@ -12,7 +12,7 @@ use tables::Thresholds;
 // What a verdict lists goes to place n; answers the next place.
 fn emit(out: &mut [u8], n: usize, v: Verdict) -> usize
     requires { ⌜ n < 2 ^ 32 ⌝ }
-    ensures { λ r. ⌜ Laid (now (out .entry)) (now (out .exit)) n r (listed v) ⌝ }
+    ensures { λ r. ⌜ Laid (now (out .entry)) (now (out .exit)) n r (listed v) × (r ≤ n + 1) ⌝ }
 {
     match v {
         Verdict::Listed(r) => {

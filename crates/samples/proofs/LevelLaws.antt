@@ -1,17 +1,14 @@
--- Laws of a sample's five pixels, of the nine places, and of which pixels lie inside.
+-- Laws of a sample's five pixels, and of the nine places.
 use Prim.Native.Nat.{ℕ, zero, suc, _+_, _-_, _*_, _/_, _%_, _≤_, _<_}
-use native.Mathlib.Nat.{not-suc-le-zero, le-of-suc-le-suc, ne-of-lt, mul-le-mul-right, mul-comm, suc-mul, add-mul}
+use native.Mathlib.Nat.{not-suc-le-zero, le-of-suc-le-suc, suc-mul, add-mul}
 use native.Mathlib.Omega.{arith}
 use mathlib.Core.Path.{_≡_, refl, sym, ap, _∙_}
 use mathlib.Core.List.{List, []}
-use lib.ListN.{length, getD, set}
-use lib.Seq.{ext-getD, getD-set-same, getD-set-other}
+use lib.ListN.{length, getD}
+use lib.Seq.{ext-getD}
 use lib.Ieee.{Float, nan}
-use borrow.Author.Count.{below-more}
-use Rattle.pixel.specs.declared.Frame.{Frame}
 use Rattle.grid.specs.Grid.{pixelAt}
-use Rattle.grid.proofs.GridLaws.{area}
-use Rattle.samples.specs.Level.{stencilOf, sampleAt, placesOf, nineOf, Inner, Within, Sized}
+use Rattle.samples.specs.Level.{stencilOf, sampleAt, placesOf, nineOf}
 
 -- ---- a sample's five pixels
 
@@ -33,25 +30,6 @@ pub sample-reads : (l : List Float) (rows row col : ℕ) (sigma : Float) → 1 �
     stencilOf (getD l (p - rows) nan) (getD l (p + rows) nan) (getD l (p - 1) nan) (getD l (p + 1) nan) (getD l p nan) sigma ≡ sampleAt l rows row col sigma
 unfolding sampleAt pixelAt
 sample-reads l rows row col sigma up left = rw (left-place rows row col left, right-place rows row col, up-place rows row col up, down-place rows row col)
-
--- ---- which pixels lie inside
-
--- each of the nine places around a pixel that is two off the sides is one off them
-pub within-place : {row col : ℕ} {f : Frame} (i : ℕ) → i < 9 → Within 2 f row col → Within 1 f (row + i / 3 - 1) (col + i % 3 - 1)
-within-place i h w = record { top = omega arith; bottom = omega arith; left = omega arith; right = omega arith }
-
--- a pixel two off the sides is one off them
-pub within-less : {row col : ℕ} {f : Frame} → Within 2 f row col → Within 1 f row col
-within-less w = record { top = omega arith; bottom = omega arith; left = omega arith; right = omega arith }
-
-pub inner : {n n0 n1 n2 n3 row col : ℕ} {f : Frame} → Sized f n0 n1 n2 n3 → n ≡ f .rows * f .cols → Within 1 f row col → Inner n (f .rows) row col
-inner {row = row} {col = col} {f = f} sized long w = record {
-  up = w .top;
-  down = w .bottom;
-  left = w .left;
-  right = omega (arith, mul-le-mul-right {m = col + 2} {n = f .cols} (f .rows) (omega arith), mul-comm (f .rows) (f .cols));
-  most = omega (arith, area (sized .rows-most) (sized .cols-most));
-}
 
 -- ---- the nine places
 
@@ -88,11 +66,3 @@ module _ (samples : ℕ → ℕ → List Float) (row col : ℕ) where
   nine-built l e h =
       ext-getD [] l (nineOf samples row col) (e ∙ sym (length-places 9 0))
       (λ k b. let inside : k < 9 = omega arith in h k inside ∙ sym (nine-place k inside))
-
-  -- one place more
-  pub nine-filled : (l : List (List Float)) (i : ℕ) (v : List Float) → i < length l → ((k : ℕ) → k < i → getD l k [] ≡ placed k) → v ≡ placed i
-      → (k : ℕ) → k < i + 1 → getD (set l i v) k [] ≡ placed k
-  nine-filled l i v b h e =
-      below-more (λ k. getD (set l i v) k [] ≡ placed k) i
-      (λ k less. getD-set-other l i k v [] (ne-of-lt less) ∙ h k less)
-      (getD-set-same l i v [] b ∙ e)

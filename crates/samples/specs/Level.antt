@@ -56,14 +56,6 @@ nineOf samples row col = placesOf samples row col 9 0
 abbrev pub nineAt : Maps → ℕ → ℕ → List (List Float)
 nineAt m = nineOf (samplesAt m)
 
--- (row, col) and its four neighbours lie in a level of n floats
-pub record Inner (n rows row col : ℕ) : Type 0 where
-  pub up : 1 ≤ row
-  pub down : row + 1 < rows
-  pub left : 1 ≤ col
-  pub right : (col + 2) * rows ≤ n
-  pub most : n ≤ 16777216
-
 -- (row, col) is at least d off each side of the frame
 pub record Within (d : ℕ) (f : Frame) (row col : ℕ) : Type 0 where
   pub top : d ≤ row

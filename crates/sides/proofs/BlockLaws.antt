@@ -16,8 +16,9 @@ use Rattle.columns.specs.Stat.{cubicIn}
 use Rattle.rivals.proofs.ThinLaws.{unsure}
 use Rattle.slots.specs.Column.{Rings, readAt, Filled}
 use Rattle.slots.proofs.ColumnLaws.{filled-alike}
-use Rattle.gather.specs.Gather.{Span, Spans, Long, Gathered}
-use Rattle.sides.specs.Beside.{threeOf, CubicsAt, Left}
+use Rattle.nine.specs.Nine.{Span, Spans, threeOf}
+use Rattle.gather.specs.Gather.{Long, Gathered}
+use Rattle.sides.specs.Beside.{CubicsAt, Left}
 use Rattle.sides.proofs.LeftLaws.{opened-plain, left-none}
 
 -- ---- the own lines

@@ -22,7 +22,8 @@ use Rattle.rivals.proofs.ListLaws.{thinned-code}
 use Rattle.rivals.proofs.EndsLaws.{raised-code}
 use Rattle.rivals.proofs.OffRules.{code-row}
 use Rattle.rivals.proofs.ThinLaws.{unsure, bit-either, no-bit, zero-not-one, packed-among, small-word, opened-bits, raised-bits}
-use Rattle.sides.specs.Beside.{uprightOf, besideOf, takenOf, nineBeside, CubicsAt, Left}
+use Rattle.nine.specs.Nine.{nineBeside}
+use Rattle.sides.specs.Beside.{uprightOf, besideOf, takenOf, CubicsAt, Left}
 use Rattle.sides.proofs.SideRules.{unmarked, upright, beside, refused, side-rules}
 
 -- the place of the i-th pixel in the slot at 0

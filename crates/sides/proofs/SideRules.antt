@@ -22,7 +22,8 @@ use Rattle.rivals.specs.Ends.{endsAt, nineIn}
 use Rattle.rivals.specs.Off.{codeOf, bitOf}
 use Rattle.rivals.specs.Ready.{ReadyAt, Slot}
 use Rattle.rivals.proofs.OffRules.{code-row, code-high, either-of, cubics-in, unmarked-rules, rule-point, rule-end, rule-refused}
-use Rattle.sides.specs.Beside.{uprightOf, besideOf, takenOf, nineBeside, CubicsAt}
+use Rattle.nine.specs.Nine.{nineBeside}
+use Rattle.sides.specs.Beside.{uprightOf, besideOf, takenOf, CubicsAt}
 
 -- ---- the nine samples, place by place
 

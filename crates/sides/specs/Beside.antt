@@ -17,11 +17,10 @@ use Rattle.refine.specs.Refine.{denominatorOf, steepOf, deltaYOf, deltaXOf, nea
 use Rattle.pixel.specs.Verdict.{verdictOf}
 use Rattle.pixel.specs.declared.Frame.{Frame}
 use Rattle.pixel.specs.declared.Verdict.the-variants.{Nothing}
-use Rattle.samples.specs.Four.{Four, samplesBy}
 use Rattle.columns.specs.Stat.{cubicIn}
 use Rattle.rivals.specs.Near.{reachesAt}
 use Rattle.rivals.specs.Ends.{endsAt, nineIn, spotOf, acceptedOf}
-use Rattle.gather.specs.Gather.{Spans}
+use Rattle.nine.specs.Nine.{nineBeside}
 
 -- the candidate e is reached by the point of the pixel above or below it, or at an end of its band by one of them
 unfoldable pub uprightOf : List Float → ℕ → List Float → List Float → List Float → List Float → List Float → List Float → Bool
@@ -50,26 +49,9 @@ placesOf w isMax =
 unfoldable pub takenOf : Set → Float → ℕ → List Float → List Float → List Float → List Float → List Float → Bool
 takenOf s ratio e a b c d p = acceptedOf (refineOf s ratio (nineIn 260 0 520 (e % 780) a b c d) (spotOf (p at (e + 1)) (leb 780 e)))
 
--- the samples at the nine places around place i + 1 of the middle one of three columns, by rows: l k i are those at place i of the k-th column
-unfoldable pub nineBeside : (ℕ → ℕ → List Float) → ℕ → List (List Float)
-nineBeside l i =
-    l 0 i ∷ l 1 i ∷ l 2 i ∷ l 0 (i + 1) ∷ l 1 (i + 1) ∷ l 2 (i + 1) ∷ l 0 (i + 2) ∷ l 1 (i + 2) ∷ l 2 (i + 2) ∷ []
-
--- the samples of three columns side by side: column k at place i, from the offsets of the columns u, x, y and z of the lists l, the last before t of the lists r
-unfoldable pub threeOf : Four → Four → ℕ → ℕ → ℕ → ℕ → ℕ → List Float → ℕ → ℕ → List Float
-threeOf l r u x y z t g zero i = samplesBy l l (u + i) (x + i) (y + i) g
-threeOf l r u x y z t g (suc zero) i = samplesBy l l (x + i) (y + i) (z + i) g
-threeOf l r u x y z t g (suc (suc k)) i = samplesBy l r (y + i) (z + i) (t + i) g
-
 -- the cubics at the three places from the h-th on lie in the slot at z, made of the samples l
 abbrev pub CubicsAt : Set → (ℕ → List Float) → ℕ → ℕ → List Float → List Float → List Float → List Float → Type 0
 CubicsAt s l z h a b c d = (q : ℕ) → q < 3 → cubicIn a b c d (z + h + q) ≡ coeffsOf (s .scale) (l (h + q))
-
--- the places that are read beside n pixels, from the offsets of four columns of the lists l on, the last of which is followed by one at t of the lists r
-pub record Beside (l r : Four) (u x y z t n : ℕ) : Type 0 where
-  pub before : Spans l l u x y (n + 3)
-  pub own : Spans l l x y z (n + 3)
-  pub after : Spans l r y z t (n + 3)
 
 -- a 0 means that the pixel lists nothing, whatever map and place it is of; nothing but 0 and 1 is kept
 pub record Left (s : Set) (th : Thresholds) (l : ℕ → ℕ → List Float) (n : ℕ) (keep : List ℕ) : Type 0 where

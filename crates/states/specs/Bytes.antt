@@ -13,7 +13,7 @@ use Rattle.tables.specs.declared.Refusal.the-variants.{Room, Past}
 use Rattle.tables.specs.Set.{setOf}
 use Rattle.tables.specs.Refusal.{Check, _when_, firstOf, number, value, readSetOf}
 use Rattle.samples.specs.Four.{Four}
-use Rattle.feed.specs.declared.State.{State}
+use Rattle.ring.specs.declared.State.{State}
 use Rattle.feed.specs.declared.Answer.{Answer}
 use Rattle.feed.specs.declared.Answer.the-variants.{Taken, Refused}
 use Rattle.feed.specs.Feed.{startChecks, columnOf}

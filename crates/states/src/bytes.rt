@@ -5,7 +5,7 @@ ghost use lib.ListN.{length};
 ghost use lib.Seq.{sets};
 ghost use Rattle.words.specs.Words.{wordBytes, wordFrom};
 ghost use Rattle.states.specs.Bytes.{stateOf, thresholdsBytes, numbersBytes, openedBytes};
-use feed::State;
+use ring::State;
 use tables::Thresholds;
 use words::float_from;
 use words::put_bytes;

@@ -2,7 +2,7 @@
 use mathlib.Core.Path.{ap, _∙_}
 use native.Mathlib.Omega.{arith}
 use Rattle.samples.specs.Four.{fourOf}
-use Rattle.feed.specs.declared.State.{State}
+use Rattle.ring.specs.declared.State.{State}
 use Rattle.feed.specs.declared.Answer.the-variants.{Taken, Refused}
 use Rattle.feed.specs.Feed.{columnOf}
 use Rattle.states.specs.Bytes.{columnLeftBy}

@@ -1,4 +1,5 @@
 -- `listed::emit` meets its contract.
+use native.Mathlib.Omega.{arith}
 use mathlib.Core.Path.{refl, sym, _∙_}
 use Rattle.record.proofs.LayoutLaws.{lay-one, laid-none}
 use Rattle.pixel.specs.Listed.{listed}
@@ -23,11 +24,11 @@ same-length c = search needs
 
 returns : tie.Need-returns
 unfolding listed
-returns c = rw (c .before .before .before .before .before .v .given .1) (record { count = refl; bytes = c .before .before .put-at .ensures ∙ sym (lay-one _ _ _) })
+returns c = rw (c .before .before .before .before .before .v .given .1) (record { count = refl; bytes = c .before .before .put-at .ensures ∙ sym (lay-one _ _ _) }, omega arith)
 
 returns-2 : tie.Need-returns-2
 unfolding listed
-returns-2 c = rw (c .enum-told .given .1) laid-none
+returns-2 c = rw (c .enum-told .given .1) (laid-none, omega arith)
 
 pub emit-spec : {M : Type 1} → statement M
 emit-spec =

@@ -3,7 +3,7 @@ use mathlib.Core.Path.{_∙_}
 use native.Mathlib.Omega.{arith}
 use borrow.Author.Needs.{needs}
 use Rattle.samples.specs.Four.{fourOf}
-use Rattle.sides.specs.Beside.{threeOf}
+use Rattle.nine.specs.Nine.{threeOf}
 use Rattle.sides.proofs.LeftLaws.{opened-plain, left-listed}
 use Rattle.sides.proofs.BlockLaws.{four-long, own-same, before-stand, after-stand}
 use Rattle.sides.proofs.block.listed.Statement.{statement}

@@ -2,7 +2,7 @@
 use native.Mathlib.Omega.{arith}
 use borrow.Author.Needs.{needs}
 use Rattle.samples.specs.Four.{fourOf}
-use Rattle.sides.specs.Beside.{threeOf}
+use Rattle.nine.specs.Nine.{threeOf}
 use Rattle.sides.proofs.BlockLaws.{reach-all, own-filled, filled-none, rings-with}
 use Rattle.sides.proofs.block.mark_block.Statement.{statement}
 use Rattle.sides.proofs.block.mark_block.Tie as tie

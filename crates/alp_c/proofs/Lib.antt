@@ -1,2 +1,0 @@
--- What the C face's promises settle.
-pub mod FaceLaws

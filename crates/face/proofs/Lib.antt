@@ -1,0 +1,2 @@
+-- When a set's record is refused.
+pub mod FaceLaws

@@ -1,0 +1,2 @@
+-- What downsample's face leaves of an outcome.
+pub mod FaceLaws

@@ -1,0 +1,2 @@
+-- What the join's face leaves of an outcome.
+pub mod FaceLaws

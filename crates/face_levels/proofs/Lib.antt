@@ -1,0 +1,2 @@
+-- What the levels' face leaves of an outcome.
+pub mod FaceLaws

@@ -1,0 +1,3 @@
+-- Laws of the nine places.
+pub mod NineLaws
+pub mod LevelsLaws

@@ -1,0 +1,3 @@
+-- Laws of the ring, and of what is listed from it.
+pub mod RingLaws
+pub mod SpotsLaws

@@ -1,0 +1,2 @@
+-- Laws of the judged column's blocks.
+pub mod RuleLaws

@@ -1,0 +1,2 @@
+-- Marks. Only inner functions cite this.
+pub mod Marked
