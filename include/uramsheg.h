@@ -92,8 +92,8 @@ uint32_t uramsheg_detect(const uint8_t *set, size_t set_length,
 /* A feed: the spots of a map whose columns come one after the other, from a scanner say, without the whole map in memory.
  *
  * What is lent: a ring of four slices, one for each level, of 5 * rows floats each, and a state of URAMSHEG_FEED_BYTES bytes. A slice may be longer; its
- * later floats are kept. On maps of 4,096 rows make each slice 1,024 floats longer: where the same rows of all levels lie a whole number of a cache's ways
- * apart, they push each other out of it, and the feed takes up to a sixth longer. Start the feed, then give it column 0, 1, .. of each level, with the same
+ * later floats are kept: on maps of 4,096 rows slices 1,024 floats longer keep the same rows of all levels from pushing each other out of a near cache of few
+ * ways (docs/BENCHMARKS.md, the feed). Start the feed, then give it column 0, 1, .. of each level, with the same
  * ring and the same state each time, until all cols have come. Column c is judged when c + 2 has come, so that each call answers with the records of the
  * column two before the one that it is given; the first six calls and the last two list nothing. Over a whole feed the records are those of uramsheg_detect
  * on the same levels, bit for bit: put them in the order of their keys, at one key the minimum first, and the lists are equal. A feed that stops early has

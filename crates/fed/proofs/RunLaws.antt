@@ -16,7 +16,7 @@ use Rattle.feed.specs.declared.Answer.the-variants.{Taken}
 use Rattle.samples.specs.Four.{Four}
 use Rattle.ring.specs.Ring.{judgedSpots, stored}
 use Rattle.ring.specs.Lent.{Long}
-use Rattle.feed.specs.Feed.{After, refused, next}
+use Rattle.feed.specs.Feed.{After, next}
 use Rattle.fed.specs.Held.{mapOf, Column, Held, Given}
 use Rattle.fed.specs.Run.{Call, leaves, handed, takenBy, stateAfter, bytesAfter, levelAfter}
 use Rattle.fed.specs.Order.{columnsDue, judgedOf}

@@ -1,6 +1,6 @@
 -- Laws of four places at once: listed one by one, written, and their cubics. Assumes nothing.
 use Prim.Native.Nat.{ℕ, zero, suc, _+_, _-_, _≤_, _<_}
-use native.Mathlib.Nat.{add-zero, add-assoc}
+use native.Mathlib.Nat.{add-zero}
 use native.Mathlib.Omega.{arith}
 use mathlib.Core.Path.{_≡_, refl, _∙_}
 use mathlib.Core.List.{List, [], _∷_}
@@ -13,8 +13,8 @@ use Rattle.samples.specs.Four.{Four, samplesBy}
 use Rattle.columns.specs.Line.{Written}
 use Rattle.columns.specs.Stat.{cubicIn}
 use Rattle.columns.proofs.LineLaws.{written-none, written-more}
-use Rattle.gather.specs.Gather.{Long, cubicBy, Put}
-use Rattle.gather.specs.Step.{Each, stencilBy, Rows}
+use Rattle.gather.specs.Gather.{Long, samplesFrom}
+use Rattle.gather.specs.Step.{Each, stencilBy, Rows, Put, sampleFrom, linesAt}
 
 -- ---- four of a list
 
@@ -39,9 +39,9 @@ samples-listed l r left mid right square e0 e1 e2 e3 = each-listed (λ q. stenci
 -- ---- four entries written
 
 -- one after the other
-pub four-written : (x a : List Float) (m : ℕ) → m + 4 ≤ 780 → length a ≡ 780
+pub four-written : (x a : List Float) (m : ℕ) → m + 4 ≤ length a
     → Written nan a (set (set (set (set a m (x at 0)) (m + 1) (x at 1)) (m + 2) (x at 2)) (m + 3) (x at 3)) m 4 (λ q y. y ≡ x at q)
-four-written x a m room long =
+four-written x a m room =
     let none = written-none nan a m (λ q y. y ≡ x at q) in
     let one = written-more nan (set a m (x at 0)) (x at 0) none (omega arith) (rw add-zero refl) refl in
     let two = written-more nan (set (set a m (x at 0)) (m + 1) (x at 1)) (x at 1) one (omega arith) refl refl in
@@ -54,25 +54,13 @@ each-written x f each w = record { line = λ q h. w .line q h ∙ each q h; same
 
 -- ---- a place's cubic
 
--- a place's sample, by its offsets
-sample-is : (l r : List Float) (left mid right h q : ℕ) (s : Float) → stencilBy l r (left + h + q) (mid + h + q) (right + h + q) (s ⊗ s)
-    ≡ stencilOf (l at (left + (h + q))) (r at (right + (h + q))) (l at (mid + (h + q) - 1)) (l at (mid + (h + q) + 1)) (l at (mid + (h + q))) s
-unfolding stencilBy stencilOf
-sample-is l r left mid right h q s = rw (add-assoc left h q, add-assoc mid h q, add-assoc right h q) refl
-
--- a place's samples
-abbrev samplesIn : Four → Four → ℕ → ℕ → ℕ → List Float → ℕ → List Float
-samplesIn l r left mid right g i = samplesBy l r (left + i) (mid + i) (right + i) g
-
--- each level's is one of them
-samples-are : (l r : Four) (left mid right : ℕ) (g : List Float) (h q : ℕ)
-    → (stencilBy (l .l0) (r .l0) (left + h + q) (mid + h + q) (right + h + q) (g at 0 ⊗ g at 0) ≡ samplesIn l r left mid right g (h + q) at 0)
-    × (stencilBy (l .l1) (r .l1) (left + h + q) (mid + h + q) (right + h + q) (g at 1 ⊗ g at 1) ≡ samplesIn l r left mid right g (h + q) at 1)
-    × (stencilBy (l .l2) (r .l2) (left + h + q) (mid + h + q) (right + h + q) (g at 2 ⊗ g at 2) ≡ samplesIn l r left mid right g (h + q) at 2)
-    × (stencilBy (l .l3) (r .l3) (left + h + q) (mid + h + q) (right + h + q) (g at 3 ⊗ g at 3) ≡ samplesIn l r left mid right g (h + q) at 3)
-unfolding samplesBy
-samples-are l r left mid right g h q =
-    (sample-is (l .l0) (r .l0) left mid right h q (g at 0), sample-is (l .l1) (r .l1) left mid right h q (g at 1), sample-is (l .l2) (r .l2) left mid right h q (g at 2), sample-is (l .l3) (r .l3) left mid right h q (g at 3))
+-- what four lines of samples have at a place are the samples there
+pub lines-are : (l r : Four) (left mid right : ℕ) (g s0 s1 s2 s3 : List Float) (i : ℕ)
+    → s0 at i ≡ sampleFrom (l .l0) (r .l0) left mid right (g at 0 ⊗ g at 0) i → s1 at i ≡ sampleFrom (l .l1) (r .l1) left mid right (g at 1 ⊗ g at 1) i
+    → s2 at i ≡ sampleFrom (l .l2) (r .l2) left mid right (g at 2 ⊗ g at 2) i → s3 at i ≡ sampleFrom (l .l3) (r .l3) left mid right (g at 3 ⊗ g at 3) i
+    → linesAt s0 s1 s2 s3 i ≡ samplesFrom l r left mid right g i
+unfolding samplesBy stencilBy stencilOf
+lines-are l r left mid right g s0 s1 s2 s3 i e0 e1 e2 e3 = rw (e0, e1, e2, e3) refl
 
 -- the coefficients from the differences
 coefficients-make : (t k : List Float) {d0 d1 d2 s x0 x1 x2 x3 : Float} → d0 ≡ k at 0 ⊖ k at 3 → d1 ≡ k at 1 ⊖ k at 3 → d2 ≡ k at 2 ⊖ k at 3 → s ≡ k at 3
@@ -80,26 +68,18 @@ coefficients-make : (t k : List Float) {d0 d1 d2 s x0 x1 x2 x3 : Float} → d0 �
 unfolding coeffsOf
 coefficients-make t k e0 e1 e2 e3 f0 f1 f2 f3 = rw (f0, f1, f2, f3, e0, e1, e2, e3) refl
 
-module _ (t : List Float) (l r : Four) (left mid right : ℕ) (g : List Float) (z h : ℕ) (s0 s1 s2 s3 : List Float) {d0 d1 d2 a b c d a' b' c' d' : List Float} (long : Long a b c d)
-    (is3 : Each s3 (λ q. stencilBy (l .l3) (r .l3) (left + h + q) (mid + h + q) (right + h + q) (g at 3 ⊗ g at 3)))
-    (is0 : Each s0 (λ q. stencilBy (l .l0) (r .l0) (left + h + q) (mid + h + q) (right + h + q) (g at 0 ⊗ g at 0)))
-    (less0 : Each d0 (λ q. s0 at q ⊖ s3 at q))
-    (is1 : Each s1 (λ q. stencilBy (l .l1) (r .l1) (left + h + q) (mid + h + q) (right + h + q) (g at 1 ⊗ g at 1)))
-    (less1 : Each d1 (λ q. s1 at q ⊖ s3 at q))
-    (is2 : Each s2 (λ q. stencilBy (l .l2) (r .l2) (left + h + q) (mid + h + q) (right + h + q) (g at 2 ⊗ g at 2)))
-    (less2 : Each d2 (λ q. s2 at q ⊖ s3 at q))
-    (rows : Rows t d0 d1 d2 s3 (z + h) a b c d a' b' c' d') where
+module _ (t s0 s1 s2 s3 : List Float) (z h : ℕ) (x0 x1 x2 x3 : List Float) {d0 d1 d2 a b c d a' b' c' d' : List Float} (long : Long a b c d) (is3 : Each x3 (λ q. s3 at (h + q)))
+    (is0 : Each x0 (λ q. s0 at (h + q))) (less0 : Each d0 (λ q. x0 at q ⊖ x3 at q)) (is1 : Each x1 (λ q. s1 at (h + q))) (less1 : Each d1 (λ q. x1 at q ⊖ x3 at q))
+    (is2 : Each x2 (λ q. s2 at (h + q))) (less2 : Each d2 (λ q. x2 at q ⊖ x3 at q)) (rows : Rows t d0 d1 d2 x3 (z + h) a b c d a' b' c' d') where
   -- the cubic at the q-th of the places
-  cubic-is : (q : ℕ) → q < 4 → cubicIn a' b' c' d' (z + h + q) ≡ cubicBy t l r left mid right g (h + q)
+  cubic-is : (q : ℕ) → q < 4 → cubicIn a' b' c' d' (z + h + q) ≡ coeffsOf t (linesAt s0 s1 s2 s3 (h + q))
   cubic-is q less =
-      let are = samples-are l r left mid right g h q in
-      let e3 = is3 q less ∙ are .3 in
-      coefficients-make t (samplesIn l r left mid right g (h + q))
-      (less0 q less ∙ rw (is0 q less ∙ are .0, e3) refl) (less1 q less ∙ rw (is1 q less ∙ are .1, e3) refl) (less2 q less ∙ rw (is2 q less ∙ are .2, e3) refl) e3
+      coefficients-make t (linesAt s0 s1 s2 s3 (h + q))
+      (less0 q less ∙ rw (is0 q less, is3 q less) refl) (less1 q less ∙ rw (is1 q less, is3 q less) refl) (less2 q less ∙ rw (is2 q less, is3 q less) refl) (is3 q less)
       (rows .first .line q less) (rows .second .line q less) (rows .third .line q less) (rows .fourth .line q less)
 
   -- what the calls of `put_cubics` write
-  pub cubics-put : Put t l r left mid right g z h a b c d a' b' c' d'
+  pub cubics-put : Put t (linesAt s0 s1 s2 s3) z h a b c d a' b' c' d'
   cubics-put = record {
     here = cubic-is;
     same = λ i away. rw (rows .first .same i away, rows .second .same i away, rows .third .same i away, rows .fourth .same i away) refl;

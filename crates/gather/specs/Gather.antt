@@ -16,18 +16,12 @@ pub record Long (a b c d : List Float) : Type 0 where
   pub third : length c ≡ 780
   pub fourth : length d ≡ 780
 
--- the cubic that the table t makes of the samples at the i-th place from the offsets on
-abbrev pub cubicBy : List Float → Four → Four → ℕ → ℕ → ℕ → List Float → ℕ → List Float
-cubicBy t l r left mid right g i = coeffsOf t (samplesBy l r (left + i) (mid + i) (right + i) g)
+-- the samples at the i-th place from the offsets on
+abbrev pub samplesFrom : Four → Four → ℕ → ℕ → ℕ → List Float → ℕ → List Float
+samplesFrom l r left mid right g i = samplesBy l r (left + i) (mid + i) (right + i) g
 
--- the cubics of the four places from the h-th on lie from place z + h on; all others are as they were
-pub record Put (t : List Float) (l r : Four) (left mid right : ℕ) (g : List Float) (z h : ℕ) (a b c d a' b' c' d' : List Float) : Type 0 where
-  pub here : (q : ℕ) → q < 4 → cubicIn a' b' c' d' (z + h + q) ≡ cubicBy t l r left mid right g (h + q)
-  pub same : (i : ℕ) → (i < z + h) ⊎ (z + h + 4 ≤ i) → cubicIn a' b' c' d' i ≡ cubicIn a b c d i
-  pub long : Long a' b' c' d'
-
--- for each of the first k codes whose pixel is one of the first n: the cubics of the three places from its own on lie in the slot at z; what lies outside of the slot is as it was
-pub record Gathered (t : List Float) (l r : Four) (left mid right : ℕ) (g : List Float) (z n k : ℕ) (codes : List ℕ) (a b c d a' b' c' d' : List Float) : Type 0 where
-  pub here : (j : ℕ) → j < k → getD codes j 0 % 780 < n → (q : ℕ) → q < 3 → cubicIn a' b' c' d' (z + getD codes j 0 % 780 + q) ≡ cubicBy t l r left mid right g (getD codes j 0 % 780 + q)
+-- for each of the first k codes whose pixel is one of the first n: the cubics that the table t makes of the samples f at the three places from its own on lie in the slot at z; what lies outside of the slot is as it was
+pub record Gathered (t : List Float) (f : ℕ → List Float) (z n k : ℕ) (codes : List ℕ) (a b c d a' b' c' d' : List Float) : Type 0 where
+  pub here : (j : ℕ) → j < k → getD codes j 0 % 780 < n → (q : ℕ) → q < 3 → cubicIn a' b' c' d' (z + getD codes j 0 % 780 + q) ≡ coeffsOf t (f (getD codes j 0 % 780 + q))
   pub same : (i : ℕ) → (i < z) ⊎ (z + 257 ≤ i) → cubicIn a' b' c' d' i ≡ cubicIn a b c d i
   pub long : Long a' b' c' d'

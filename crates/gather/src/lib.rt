@@ -1,5 +1,5 @@
-// The cubics at the places beside candidates, gathered into a slot of the rings: four places of a column at once, one after the other, which the machine takes
-// in one step. The column after a place may lie in slices of its own.
+// The cubics at the places beside candidates, gathered into a slot of the rings: the samples of one level after the other, then the cubics by them, four places
+// of a column at once, which the machine takes in one step. The column after a place may lie in slices of its own.
 ghost use mathlib.Core.Path.{_≡_};
 ghost use Prim.Native.Nat.{_+_, _%_, _≤_, _<_};
 ghost use lib.ListN.{length};
@@ -8,9 +8,9 @@ ghost use Rattle.float.specs.Num.{_⊕_, _⊖_};
 ghost use Rattle.fit.specs.Cubic.{_at_, rowOf};
 ghost use Rattle.samples.specs.Four.{fourOf};
 ghost use Rattle.columns.specs.Line.{Written};
-ghost use Rattle.nine.specs.Nine.{Spans};
-ghost use Rattle.gather.specs.Gather.{Long, Put, Gathered};
-ghost use Rattle.gather.specs.Step.{Each, stencilBy, Rows, Tried};
+ghost use Rattle.nine.specs.Nine.{Span, Spans};
+ghost use Rattle.gather.specs.Gather.{Long, samplesFrom, Gathered};
+ghost use Rattle.gather.specs.Step.{Each, stencilBy, Rows, Put, Tried, sampleFrom, Lined, Sampled, Lines, linesAt};
 use fit::scale_fit::row;
 
 // A sample whose right pixel lies in another slice.
@@ -108,21 +108,85 @@ fn put_rows<'a>(
     put(more(rows(t, 9, d0, d1, d2), s), m, d);
 }
 
-// The cubics of the four places from the h-th on, at place z + h of the rings.
-fn put_cubics<'a>(
-    l0: &'a [f32],
-    l1: &'a [f32],
-    l2: &'a [f32],
-    l3: &'a [f32],
-    r0: &'a [f32],
-    r1: &'a [f32],
-    r2: &'a [f32],
-    r3: &'a [f32],
+// Four floats go to a line, from place m on.
+fn put_line(x: [f32; 4], m: usize, s: &mut [f32; 260])
+    requires { ⌜ (m + 4 ≤ 260) × (length (now s) ≡ 260) ⌝ }
+    ensures { λ u. ⌜ Written nan (now (s .entry)) (now (s .exit)) m 4 (λ q y. y ≡ x at q) ⌝ }
+{
+    s[m] = x[0];
+    s[m + 1] = x[1];
+    s[m + 2] = x[2];
+    s[m + 3] = x[3];
+}
+
+// A level's samples at the four places from the h-th on go to its line, if h is one of the first n.
+fn put_samples<'a>(
+    l: &'a [f32],
+    r: &'a [f32],
     left: usize,
     mid: usize,
     right: usize,
-    g: [f32; 4],
+    square: f32,
+    n: usize,
+    h: usize,
+    s: &mut [f32; 260],
+)
+    requires { ⌜ Span (length (now l)) (length (now r)) left mid right (n + 3) ⌝ }
+    requires { ⌜ (n ≤ 254) × (length (now s) ≡ 260) ⌝ }
+    ensures { λ u. ⌜ Lined (sampleFrom (now (l .entry)) (now (r .entry)) left mid right square) n h (now (s .entry)) (now (s .exit)) ⌝ }
+{
+    if n <= h {
+        return;
+    }
+    put_line(samples(l, r, left + h, mid + h, right + h, square), h, s);
+}
+
+// The pixel of a candidate's code.
+fn pixel_of(code: u32) -> usize
+    ensures { λ r. ⌜ r ≡ code % 780 ⌝ }
+{
+    code as usize % 780
+}
+
+// A level's samples beside all candidates. Four levels at once would push each other's columns out of the nearest cache.
+fn level_list<'a>(
+    l: &'a [f32],
+    r: &'a [f32],
+    left: usize,
+    mid: usize,
+    right: usize,
+    square: f32,
+    n: usize,
+    k: usize,
+    codes: &'a [u32; 512],
+    s: &mut [f32; 260],
+)
+    requires { ⌜ Span (length (now l)) (length (now r)) left mid right (n + 3) ⌝ }
+    requires { ⌜ (n ≤ 254) × (k ≤ 512) × (length (now s) ≡ 260) ⌝ }
+    ensures { λ u. ⌜ Sampled (sampleFrom (now (l .entry)) (now (r .entry)) left mid right square) n k (now (codes .entry)) (now (s .exit)) ⌝ }
+{
+    let mut i: usize = 0;
+    while i < k {
+        put_samples(l, r, left, mid, right, square, n, pixel_of(codes[i]), s);
+        i += 1;
+    }
+}
+
+// Four floats of a line, from place h on.
+fn four_of(s: &[f32; 260], h: usize) -> [f32; 4]
+    requires { ⌜ (h + 4 ≤ 260) × (length (now s) ≡ 260) ⌝ }
+    ensures { λ x. ⌜ Each x (λ q. now (s .entry) at (h + q)) ⌝ }
+{
+    [s[h], s[h + 1], s[h + 2], s[h + 3]]
+}
+
+// The cubics of the four places from the h-th on, by the lines of the samples, go to place z + h of the rings.
+fn put_cubics<'a>(
     t: &'a [f32; 12],
+    s0: &'a [f32; 260],
+    s1: &'a [f32; 260],
+    s2: &'a [f32; 260],
+    s3: &'a [f32; 260],
     z: usize,
     h: usize,
     a: &mut [f32; 780],
@@ -130,37 +194,25 @@ fn put_cubics<'a>(
     c: &mut [f32; 780],
     d: &mut [f32; 780],
 )
-    requires { ⌜ Spans (fourOf (now l0) (now l1) (now l2) (now l3)) (fourOf (now r0) (now r1) (now r2) (now r3)) left mid right (h + 4) ⌝ }
+    requires { ⌜ (h + 4 ≤ 260) × Lines (now s0) (now s1) (now s2) (now s3) ⌝ }
     requires { ⌜ (z + h + 4 ≤ 780) × Long (now a) (now b) (now c) (now d) ⌝ }
-    ensures { λ u. ⌜ Put (now (t .entry)) (fourOf (now (l0 .entry)) (now (l1 .entry)) (now (l2 .entry)) (now (l3 .entry)))
-        (fourOf (now (r0 .entry)) (now (r1 .entry)) (now (r2 .entry)) (now (r3 .entry))) left mid right g z h
+    ensures { λ u. ⌜ Put (now (t .entry)) (linesAt (now (s0 .entry)) (now (s1 .entry)) (now (s2 .entry)) (now (s3 .entry))) z h
         (now (a .entry)) (now (b .entry)) (now (c .entry)) (now (d .entry)) (now (a .exit)) (now (b .exit)) (now (c .exit)) (now (d .exit)) ⌝ }
 {
-    let x = left + h;
-    let y = mid + h;
-    let w = right + h;
-    let s3 = samples(l3, r3, x, y, w, g[3] * g[3]);
-    let d0 = less(samples(l0, r0, x, y, w, g[0] * g[0]), s3);
-    let d1 = less(samples(l1, r1, x, y, w, g[1] * g[1]), s3);
-    let d2 = less(samples(l2, r2, x, y, w, g[2] * g[2]), s3);
-    put_rows(t, d0, d1, d2, s3, z + h, a, b, c, d);
+    let x3 = four_of(s3, h);
+    let d0 = less(four_of(s0, h), x3);
+    let d1 = less(four_of(s1, h), x3);
+    let d2 = less(four_of(s2, h), x3);
+    put_rows(t, d0, d1, d2, x3, z + h, a, b, c, d);
 }
 
 // The same, if h is one of the first n.
 fn put_below<'a>(
-    l0: &'a [f32],
-    l1: &'a [f32],
-    l2: &'a [f32],
-    l3: &'a [f32],
-    r0: &'a [f32],
-    r1: &'a [f32],
-    r2: &'a [f32],
-    r3: &'a [f32],
-    left: usize,
-    mid: usize,
-    right: usize,
-    g: [f32; 4],
     t: &'a [f32; 12],
+    s0: &'a [f32; 260],
+    s1: &'a [f32; 260],
+    s2: &'a [f32; 260],
+    s3: &'a [f32; 260],
     n: usize,
     z: usize,
     h: usize,
@@ -169,43 +221,42 @@ fn put_below<'a>(
     c: &mut [f32; 780],
     d: &mut [f32; 780],
 )
-    requires { ⌜ Spans (fourOf (now l0) (now l1) (now l2) (now l3)) (fourOf (now r0) (now r1) (now r2) (now r3)) left mid right (n + 3) ⌝ }
-    requires { ⌜ (n ≤ 254) × (z ≤ 520) × Long (now a) (now b) (now c) (now d) ⌝ }
-    ensures { λ u. ⌜ Tried (now (t .entry)) (fourOf (now (l0 .entry)) (now (l1 .entry)) (now (l2 .entry)) (now (l3 .entry)))
-        (fourOf (now (r0 .entry)) (now (r1 .entry)) (now (r2 .entry)) (now (r3 .entry))) left mid right g z n h
+    requires { ⌜ (n ≤ 254) × Lines (now s0) (now s1) (now s2) (now s3) ⌝ }
+    requires { ⌜ (z ≤ 520) × Long (now a) (now b) (now c) (now d) ⌝ }
+    ensures { λ u. ⌜ Tried (now (t .entry)) (linesAt (now (s0 .entry)) (now (s1 .entry)) (now (s2 .entry)) (now (s3 .entry))) z n h
         (now (a .entry)) (now (b .entry)) (now (c .entry)) (now (d .entry)) (now (a .exit)) (now (b .exit)) (now (c .exit)) (now (d .exit)) ⌝ }
 {
-    if n <= h {
-        return;
+    if h < n {
+        put_cubics(t, s0, s1, s2, s3, z, h, a, b, c, d);
     }
-    put_cubics(
-        l0,
-        l1,
-        l2,
-        l3,
-        r0,
-        r1,
-        r2,
-        r3,
-        left,
-        mid,
-        right,
-        g,
-        t,
-        z,
-        h,
-        a,
-        b,
-        c,
-        d,
-    );
 }
 
-// The pixel of a candidate's code.
-fn pixel_of(code: u32) -> usize
-    ensures { λ r. ⌜ r ≡ code % 780 ⌝ }
+// The cubics beside all candidates, by the lines of the samples.
+fn cubic_list<'a>(
+    t: &'a [f32; 12],
+    s0: &'a [f32; 260],
+    s1: &'a [f32; 260],
+    s2: &'a [f32; 260],
+    s3: &'a [f32; 260],
+    n: usize,
+    k: usize,
+    z: usize,
+    codes: &'a [u32; 512],
+    a: &mut [f32; 780],
+    b: &mut [f32; 780],
+    c: &mut [f32; 780],
+    d: &mut [f32; 780],
+)
+    requires { ⌜ (n ≤ 254) × Lines (now s0) (now s1) (now s2) (now s3) ⌝ }
+    requires { ⌜ (k ≤ 512) × (z ≤ 520) × Long (now a) (now b) (now c) (now d) ⌝ }
+    ensures { λ u. ⌜ Gathered (now (t .entry)) (linesAt (now (s0 .entry)) (now (s1 .entry)) (now (s2 .entry)) (now (s3 .entry))) z n k (now (codes .entry))
+        (now (a .entry)) (now (b .entry)) (now (c .entry)) (now (d .entry)) (now (a .exit)) (now (b .exit)) (now (c .exit)) (now (d .exit)) ⌝ }
 {
-    code as usize % 780
+    let mut i: usize = 0;
+    while i < k {
+        put_below(t, s0, s1, s2, s3, n, z, pixel_of(codes[i]), a, b, c, d);
+        i += 1;
+    }
 }
 
 // The cubics of the three places from each candidate's own on, in the slot at z: of those candidates whose pixel is one of the first n.
@@ -235,35 +286,17 @@ pub fn fill_list<'a>(
     requires { ⌜ Spans (fourOf (now l0) (now l1) (now l2) (now l3)) (fourOf (now r0) (now r1) (now r2) (now r3)) left mid right (n + 3) ⌝ }
     requires { ⌜ (n ≤ 254) × (k ≤ 512) ⌝ }
     requires { ⌜ (z ≤ 520) × Long (now a) (now b) (now c) (now d) ⌝ }
-    ensures { λ u. ⌜ Gathered (now (t .entry)) (fourOf (now (l0 .entry)) (now (l1 .entry)) (now (l2 .entry)) (now (l3 .entry)))
-        (fourOf (now (r0 .entry)) (now (r1 .entry)) (now (r2 .entry)) (now (r3 .entry))) left mid right g z n k (now (codes .entry))
+    ensures { λ u. ⌜ Gathered (now (t .entry)) (samplesFrom (fourOf (now (l0 .entry)) (now (l1 .entry)) (now (l2 .entry)) (now (l3 .entry)))
+        (fourOf (now (r0 .entry)) (now (r1 .entry)) (now (r2 .entry)) (now (r3 .entry))) left mid right g) z n k (now (codes .entry))
         (now (a .entry)) (now (b .entry)) (now (c .entry)) (now (d .entry)) (now (a .exit)) (now (b .exit)) (now (c .exit)) (now (d .exit)) ⌝ }
 {
-    let mut i: usize = 0;
-    while i < k {
-        let h = pixel_of(codes[i]);
-        put_below(
-            l0,
-            l1,
-            l2,
-            l3,
-            r0,
-            r1,
-            r2,
-            r3,
-            left,
-            mid,
-            right,
-            g,
-            t,
-            n,
-            z,
-            h,
-            a,
-            b,
-            c,
-            d,
-        );
-        i += 1;
-    }
+    let mut s0 = [0.0f32; 260];
+    let mut s1 = [0.0f32; 260];
+    let mut s2 = [0.0f32; 260];
+    let mut s3 = [0.0f32; 260];
+    level_list(l0, r0, left, mid, right, g[0] * g[0], n, k, codes, &mut s0);
+    level_list(l1, r1, left, mid, right, g[1] * g[1], n, k, codes, &mut s1);
+    level_list(l2, r2, left, mid, right, g[2] * g[2], n, k, codes, &mut s2);
+    level_list(l3, r3, left, mid, right, g[3] * g[3], n, k, codes, &mut s3);
+    cubic_list(t, &s0, &s1, &s2, &s3, n, k, z, codes, a, b, c, d);
 }

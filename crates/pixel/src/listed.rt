@@ -1,5 +1,4 @@
 // What a pixel lists, laid into a buffer.
-ghost use mathlib.Core.Path.{_≡_};
 ghost use Prim.Native.Nat.{_+_, _≤_, _<_, _^_};
 ghost use Rattle.record.specs.Layout.{Laid};
 ghost use Rattle.pixel.specs.Listed.{listed, bothListed};

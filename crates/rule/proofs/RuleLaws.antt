@@ -1,6 +1,6 @@
 -- The judged column by blocks: what a block marks, and the marks of one block more. Assumes nothing.
-use Prim.Native.Nat.{ℕ, _+_, _-_, _*_, _%_, _≤_, _<_}
-use native.Mathlib.Nat.{add-assoc, ne-of-lt}
+use Prim.Native.Nat.{ℕ, _+_, _-_, _≤_, _<_}
+use native.Mathlib.Nat.{ne-of-lt}
 use native.Mathlib.Omega.{arith}
 use mathlib.Core.Path.{_≡_, refl, sym, ap, _∙_, subst}
 use mathlib.Core.Bool.{Bool, true, false, not}
@@ -18,7 +18,7 @@ use Rattle.nine.specs.Nine.{nineBeside, threeOf}
 use Rattle.sides.specs.Beside.{Left}
 use Rattle.ring.specs.declared.State.{State}
 use Rattle.ring.specs.Ring.{frameOf, slotOf, samplesFed, pixelSpots}
-use Rattle.ring.specs.Lent.{Lent, heightOf, Ruled}
+use Rattle.ring.specs.Lent.{heightOf, Ruled}
 use Rattle.rule.specs.Rule.{RuledPart, Copied}
 use Rattle.ring.proofs.RingLaws.{nine-fed}
 use Rattle.ring.proofs.SpotsLaws.{height-some}

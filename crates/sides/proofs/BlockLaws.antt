@@ -64,18 +64,16 @@ four-long r = record { first = r .first; second = r .second; third = r .third; f
 pub rings-with : {a b c d a' b' c' d' p v : List Float} {w : List ℕ} → Rings a b c d p v w → Long a' b' c' d' → Rings a' b' c' d' p v w
 rings-with r g = record { first = g .first; second = g .second; third = g .third; fourth = g .fourth; points = r .points; values = r .values; words = r .words }
 
-module _ (s : Set) {l r : Four} {u x y z t n k : ℕ} {codes : List ℕ} {a b c d a₁ b₁ c₁ d₁ a₂ b₂ c₂ d₂ : List Float} (few : n ≤ 254)
-    (left : Gathered (s .scale) l l u x y (s .sigmas) 260 n k codes a b c d a₁ b₁ c₁ d₁) (right : Gathered (s .scale) l r y z t (s .sigmas) 520 n k codes a₁ b₁ c₁ d₁ a₂ b₂ c₂ d₂) where
+module _ (s : Set) {before after : ℕ → List Float} {n k : ℕ} {codes : List ℕ} {a b c d a₁ b₁ c₁ d₁ a₂ b₂ c₂ d₂ : List Float} (few : n ≤ 254)
+    (left : Gathered (s .scale) before 260 n k codes a b c d a₁ b₁ c₁ d₁) (right : Gathered (s .scale) after 520 n k codes a₁ b₁ c₁ d₁ a₂ b₂ c₂ d₂) where
   -- those of the own column are as they were
   pub own-same : (j : ℕ) → j < 260 → cubicIn a₂ b₂ c₂ d₂ j ≡ cubicIn a b c d j
   own-same j h = right .same j (inl (omega arith)) ∙ left .same j (inl h)
 
   -- those of the column before it stand
-  pub before-stand : (j : ℕ) → j < k → getD codes j 0 % 780 < n → CubicsAt s (threeOf l r u x y z t (s .sigmas) 0) 260 (getD codes j 0 % 780) a₂ b₂ c₂ d₂
-  unfolding threeOf
+  pub before-stand : (j : ℕ) → j < k → getD codes j 0 % 780 < n → CubicsAt s before 260 (getD codes j 0 % 780) a₂ b₂ c₂ d₂
   before-stand j h inside q less = right .same (260 + getD codes j 0 % 780 + q) (inl (omega arith)) ∙ left .here j h inside q less
 
   -- and those of the one after it
-  pub after-stand : (j : ℕ) → j < k → getD codes j 0 % 780 < n → CubicsAt s (threeOf l r u x y z t (s .sigmas) 2) 520 (getD codes j 0 % 780) a₂ b₂ c₂ d₂
-  unfolding threeOf
+  pub after-stand : (j : ℕ) → j < k → getD codes j 0 % 780 < n → CubicsAt s after 520 (getD codes j 0 % 780) a₂ b₂ c₂ d₂
   after-stand j h inside q less = right .here j h inside q less

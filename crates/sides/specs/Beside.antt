@@ -1,9 +1,9 @@
 -- Candidates of a column that are ruled out by the column itself and by the cubics beside them. Its lines stand in the slot at 0, the cubics of the column before
 -- it in that at 260, of the one after it in that at 520. Nothing here stands in a promise of an entry. Definitions only.
-use Prim.Native.Nat.{ℕ, zero, suc, _+_, _%_, _≤_, _<_}
+use Prim.Native.Nat.{ℕ, _+_, _%_, _≤_, _<_}
 use mathlib.Core.Path.{_≡_}
 use mathlib.Core.Bool.{Bool, not, _&&_, _||_}
-use mathlib.Core.List.{List, [], _∷_}
+use mathlib.Core.List.{List}
 use lib.Dec.{leb}
 use lib.ListN.{length, getD}
 use lib.Ieee.{Float, lt}

@@ -1,5 +1,4 @@
 -- `taken` meets its contract: where the records fit they are laid, and the columns stored; where they do not nothing is written.
-use mathlib.Core.Path.{sym, _∙_}
 use native.Mathlib.Omega.{arith}
 use Rattle.record.proofs.LayoutLaws.{laid-length}
 use Rattle.samples.specs.Four.{fourOf}

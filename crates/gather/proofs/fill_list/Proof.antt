@@ -1,68 +1,72 @@
--- `fill_list` meets its contract. The loop's invariant: the cubics beside the first i codes are gathered.
-use mathlib.Core.Path.{_≡_}
-use Prim.Native.Nat.{_≤_, _-_}
-use native.Mathlib.Omega.{arith}
-use borrow.Author.Needs.{needs}
+-- `fill_list` meets its contract: four lines of samples, and the cubics by them.
 use Rattle.samples.specs.Four.{fourOf}
-use Rattle.gather.specs.Gather.{Gathered}
-use Rattle.gather.proofs.ListLaws.{gathered-none, gathered-more}
+use Rattle.gather.proofs.ListLaws.{gathered-by}
+use borrow.Author.Needs.{needs}
 use Rattle.gather.proofs.fill_list.Statement.{statement}
 use Rattle.gather.proofs.fill_list.Tie as tie
 
-abbrev Inv-loop : tie.InvT-loop
-Inv-loop l0 l1 l2 l3 r0 r1 r2 r3 left mid right g t n k z codes a₀ b₀ c₀ d₀ i₀ a b c d i = (i ≤ k) × Gathered t (fourOf l0 l1 l2 l3) (fourOf r0 r1 r2 r3) left mid right g z n i codes a₀ b₀ c₀ d₀ a b c d
+array-read-level-list : tie.Need-array-read-level-list
+array-read-level-list c = search needs
 
-abbrev μ-loop : tie.MeasureT-loop
-μ-loop l0 l1 l2 l3 r0 r1 r2 r3 left mid right g t n k z codes a₀ b₀ c₀ d₀ i₀ a b c d i = k - i
+array-read-level-list-2 : tie.Need-array-read-level-list-2
+array-read-level-list-2 c = search needs
 
-loop-holds : tie.Need-loop-holds Inv-loop μ-loop
-loop-holds c = (omega arith, gathered-none _ _ _ _ _ _ _ _ _ _ (c .before .before .before .before .before .before .before .before .pre .1 .1 .1))
+level-list-requires : tie.Need-level-list-requires
+level-list-requires c κs = let start = c .before .before .before .before .before .before .before .before .before in (start .pre .0 .l0, (start .pre .1 .0 .0, start .pre .1 .0 .1, search needs))
 
-mul-pixel-of : tie.Need-mul-pixel-of Inv-loop μ-loop
-mul-pixel-of c = search needs
+array-read-level-list-3 : tie.Need-array-read-level-list-3
+array-read-level-list-3 c = search needs
 
-element-copy-out-pixel-of : tie.Need-element-copy-out-pixel-of Inv-loop μ-loop
-element-copy-out-pixel-of c = search needs
+array-read-level-list-4 : tie.Need-array-read-level-list-4
+array-read-level-list-4 c = search needs
 
-pixel-of-requires : tie.Need-pixel-of-requires Inv-loop μ-loop
-pixel-of-requires c κs = search needs
+level-list-requires-2 : tie.Need-level-list-requires-2
+level-list-requires-2 c κs = let start = c .before .before .before .before .before .before .before .before .before .before .before in (start .pre .0 .l1, (start .pre .1 .0 .0, start .pre .1 .0 .1, search needs))
 
-put-below-requires : tie.Need-put-below-requires Inv-loop μ-loop
-put-below-requires c κs =
-    let l = c .before .before .before .before .before .before .before in
-    let p = l .before .before .before .before .before .before .before .before .before .pre in
-    (p .0, (p .1 .0 .0, p .1 .1 .0, l .loop .inv .1 .long))
+array-read-level-list-5 : tie.Need-array-read-level-list-5
+array-read-level-list-5 c = search needs
 
-add-i : tie.Need-add-i Inv-loop μ-loop
-add-i c = search needs
+array-read-level-list-6 : tie.Need-array-read-level-list-6
+array-read-level-list-6 c = search needs
 
-loop-less : tie.Need-loop-less Inv-loop μ-loop
-loop-less c = search needs
+level-list-requires-3 : tie.Need-level-list-requires-3
+level-list-requires-3 c κs = let start = c .before .before .before .before .before .before .before .before .before .before .before .before .before in (start .pre .0 .l2, (start .pre .1 .0 .0, start .pre .1 .0 .1, search needs))
 
-loop-again : tie.Need-loop-again Inv-loop μ-loop
-loop-again c =
-    let pixel = c .before .before .before .before .before in
-    let l = pixel .before .before .before in
-    (omega arith, gathered-more (l .before .before .before .before .before .before .before .before .before .pre .1 .0 .0) (l .loop .inv .1) (pixel .pixel-of .result) (pixel .pixel-of .ensures) (c .put-below .ensures))
+array-read-level-list-7 : tie.Need-array-read-level-list-7
+array-read-level-list-7 c = search needs
 
-returns : tie.Need-returns Inv-loop μ-loop
+array-read-level-list-8 : tie.Need-array-read-level-list-8
+array-read-level-list-8 c = search needs
+
+level-list-requires-4 : tie.Need-level-list-requires-4
+level-list-requires-4 c κs = let start = c .before .before .before .before .before .before .before .before .before .before .before .before .before .before .before in (start .pre .0 .l3, (start .pre .1 .0 .0, start .pre .1 .0 .1, search needs))
+
+cubic-list-requires : tie.Need-cubic-list-requires
+cubic-list-requires c κs =
+    let p = c .before .before .before .before .before .before .before .before .before .before .before .before .before .before .before .before .before .before .before .before .before .before .before .before .pre in
+    ((p .1 .0 .0, record { first = c .before .before .before .before .before .before .before .before .before .before .before .before .before .before .level-list .ensures .long; second = c .before .before .before .before .before .before .before .before .before .before .before .before .level-list2 .ensures .long; third = c .before .before .before .before .before .before .before .before .before .before .level-list3 .ensures .long; fourth = c .before .before .before .before .before .before .before .before .level-list4 .ensures .long }), (p .1 .0 .1, p .1 .1 .0, p .1 .1 .1))
+
+returns : tie.Need-returns
 returns c =
-    let l = c .before .loop in
-    let e : c .before .before .before .before .before .before .before .before .before .before .args .k ≡ l .i = omega (arith, c .loop-test .left) in
-    rw e (l .inv .1)
+    let a = c .before .before .before .before .before .before .before .before .before .before .before .before .before .before .before .before .before .before .before .before .before .before .before .before .before .args in
+    gathered-by (fourOf (a .l0 .now) (a .l1 .now) (a .l2 .now) (a .l3 .now)) (fourOf (a .r0 .now) (a .r1 .now) (a .r2 .now) (a .r3 .now)) (a .left) (a .mid) (a .right) _ _ _ _ _
+    (c .before .before .before .before .before .before .before .before .before .before .before .before .before .before .before .level-list .ensures) (c .before .before .before .before .before .before .before .before .before .before .before .before .before .level-list2 .ensures) (c .before .before .before .before .before .before .before .before .before .before .before .level-list3 .ensures) (c .before .before .before .before .before .before .before .before .before .level-list4 .ensures) (c .cubic-list .ensures)
 
 pub fill-list-spec : {M : Type 1} → statement M
 fill-list-spec =
     tie.close
     (tie.spec
-    Inv-loop
-    μ-loop
-    loop-holds
-    mul-pixel-of
-    element-copy-out-pixel-of
-    pixel-of-requires
-    put-below-requires
-    add-i
-    loop-less
-    loop-again
+    array-read-level-list
+    array-read-level-list-2
+    level-list-requires
+    array-read-level-list-3
+    array-read-level-list-4
+    level-list-requires-2
+    array-read-level-list-5
+    array-read-level-list-6
+    level-list-requires-3
+    array-read-level-list-7
+    array-read-level-list-8
+    level-list-requires-4
+    cubic-list-requires
     returns)

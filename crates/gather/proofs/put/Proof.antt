@@ -1,4 +1,5 @@
 -- `put` meets its contract.
+use native.Mathlib.Omega.{arith}
 use borrow.Author.Needs.{needs}
 use Rattle.gather.proofs.StepLaws.{four-written}
 use Rattle.gather.proofs.put.Statement.{statement}
@@ -50,7 +51,7 @@ element-write-a-4 : tie.Need-element-write-a-4
 element-write-a-4 c = search needs
 
 returns : tie.Need-returns
-returns c = four-written (c .args .t1) (c .args .a .now) (c .args .m) (c .pre .0) (c .pre .1)
+returns c = four-written (c .args .t1) (c .args .a .now) (c .args .m) (omega (arith, c .pre .0, c .pre .1))
 
 pub put-spec : {M : Type 1} → statement M
 put-spec =

@@ -47,6 +47,7 @@ accept-list-requires c κs =
     (omega (arith, pack .few, own .few, side .few, pre .1 .0 .0), (c .before .before .before .before .before .before .before .before .before .before .before .before .before .before .before .before .before .before .before .before .before .before .before .before .before .before .before .before .before .before .before .before .before .before .before .before .open-line .ensures .long ∙ pre .1 .0 .1, side .coded))
 
 returns : tie.Need-returns
+unfolding threeOf
 returns c =
     let start = c .before .before .before .before .before .before .before .before .before .before .before .before .before .before .before .before .before .before .before .before .before .before .before .before .before .before .before .before .before .before .before .before .before .before .before .before .before .before .before .before .before .before .before .before .before .before .before .before in
     let a = start .args in
