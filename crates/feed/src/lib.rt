@@ -155,7 +155,7 @@ fn advance(taken: bool, s: State) -> State
     }
 }
 
-// What a column is answered when but its room was found good.
+// What a column is answered once all checks but that of its records have passed.
 fn answer_of(taken: bool, count: usize) -> Answer
     ensures { λ r. ⌜ r ≡ cond taken (Taken count) (Refused Room) ⌝ }
 {
