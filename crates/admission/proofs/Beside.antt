@@ -24,7 +24,7 @@ use Rattle.pixel.specs.declared.Frame.{Frame}
 use Rattle.pixel.specs.Verdict.{anchorOf, recordOf}
 use Rattle.pixel.specs.Rules.{Admits}
 use Rattle.samples.specs.Level.{Maps, Within}
-use Rattle.alp.specs.Due.{due}
+use Rattle.detect.specs.Due.{due}
 use Rattle.demands.specs.List.{Stands}
 use Rattle.demands.proofs.Listed.{list-is, own-key}
 use Rattle.admission.specs.Place.{Beside}

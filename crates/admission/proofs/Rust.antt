@@ -24,11 +24,11 @@ use Rattle.pixel.specs.Ring.{ringBy}
 use Rattle.pixel.specs.Verdict.{wholeOf, anchorOf, recordOf, admitOf, verdictBy, verdictOf}
 use Rattle.pixel.specs.Rules.{cubicsAt, ownSamples, ownCubic}
 use Rattle.samples.specs.Level.{Maps, mapsOf, samplesAt, nineAt, Within}
-use Rattle.alp.specs.Due.{due}
-use Rattle.alp.specs.Detect.{detectOf}
-use Rattle.alp.specs.declared.Answer.the-variants.{Found}
+use Rattle.detect.specs.Due.{due}
+use Rattle.detect.specs.Detect.{detectOf}
+use Rattle.detect.specs.declared.Answer.the-variants.{Found}
 use Rattle.samples.proofs.LevelLaws.{length-nine}
-use Rattle.alp.proofs.RefusalsLaws.{found-passed}
+use Rattle.detect.proofs.RefusalsLaws.{found-passed}
 use Rattle.zeros.specs.Choices.{Choices, AllAllowed, allOurs, judgeBy, pixelDueBy, rowDueBy, rowsDueBy, dueBy}
 use Rattle.zeros.specs.Alike.{RecordsNear}
 use Rattle.zeros.proofs.ListNear.{due-ours, due~}

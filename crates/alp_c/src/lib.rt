@@ -1,5 +1,6 @@
 // The C face of the detector: thin, each function one call.
 mod feeding; // feeding.rt: the feed of columns
+mod scenes; // scenes.rt: whole scenes
 
 ghost use mathlib.Core.Path.{_≡_};
 ghost use mathlib.Core.List.{[], _∷_};
@@ -13,6 +14,7 @@ ghost use Rattle.face_levels.specs.Face.{levelsLeft, levelsFace};
 ghost use Rattle.face_detect.specs.Face.{detectFace};
 pub use feeding::uramsheg_feed_column;
 pub use feeding::uramsheg_feed_start;
+pub use scenes::uramsheg_scene;
 use tables::Thresholds;
 
 // Lists the spots of four levels in the buffer out, under the set in the record set. Answers 0, with the count in value, or the refusal's number, with

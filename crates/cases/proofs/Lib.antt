@@ -1,2 +1,3 @@
 -- The table of worked cases holds.
 pub mod Table
+pub mod Cuts

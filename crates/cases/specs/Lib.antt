@@ -3,4 +3,5 @@ pub mod Case
 pub mod MapM
 pub mod Raw
 pub mod Feeds
+pub mod Scenes
 pub mod Table

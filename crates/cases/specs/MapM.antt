@@ -13,7 +13,7 @@ use Rattle.tables.specs.SetT.{setT}
 use Rattle.checks.specs.Checks.{detectChecks}
 use Rattle.record.specs.Layout.{recordAt, bytesOf}
 use Rattle.samples.specs.Level.{Maps, mapsOf}
-use Rattle.alp.specs.Due as dues
+use Rattle.detect.specs.Due as dues
 use Rattle.join.specs.Sized.{sizedBytes}
 use Rattle.cases.specs.Case.{Case}
 

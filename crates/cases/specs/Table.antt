@@ -6,6 +6,7 @@ use Rattle.tables.specs.SetT.{sigmasT, cubicT, setT}
 use Rattle.cases.specs.Case.{Case, rootCase, logCase, nearestCase, valueCase, extremeCase, countCase, envelopeCase, statisticCase, correctionCase}
 use Rattle.cases.specs.Raw.{radiusCase, radiiCase, tapCase, levelCase, wholeCase, rawCase}
 use Rattle.cases.specs.Feeds.{startCase, fedCase, columnCase}
+use Rattle.cases.specs.Scenes.{tilesCase, sceneCase, homeCase}
 use Rattle.cases.specs.MapM.{put, levelM, bytesM, minimumM, smallM, mapCase, sizedCase, thresholdsOf, thresholdsM, checksCase}
 
 -- the worked cases in document 01's order; after P12 the other cases of the correction, then those of document 02's requests
@@ -159,4 +160,26 @@ table =
     ∷ columnCase 10 9 9 45 (0 ∷ [])
     -- A state that start did not make, with more than 4,096 cols, has none to come.
     ∷ columnCase 4097 0 9 45 (0 ∷ 9 ∷ [])
+    -- No. 7 tiles along a side, and the last one's length: none past 4,096 pixels unless pixels past it remain, and then at least 9 long.
+    ∷ tilesCase 0 (1 ∷ 0 ∷ [])
+    ∷ tilesCase 9 (1 ∷ 9 ∷ [])
+    ∷ tilesCase 4096 (1 ∷ 4096 ∷ [])
+    ∷ tilesCase 4097 (2 ∷ 9 ∷ [])
+    ∷ tilesCase 8184 (2 ∷ 4096 ∷ [])
+    ∷ tilesCase 8185 (3 ∷ 9 ∷ [])
+    ∷ tilesCase 8193 (3 ∷ 17 ∷ [])
+    ∷ tilesCase 16384 (5 ∷ 32 ∷ [])
+    -- A scene's checks are 10, 2, 3, 8, 4, 6, each before the next where both hold; 1 is none of them.
+    ∷ sceneCase 16385 10 90 0 thresholdsM setT 90 (10 ∷ [])
+    ∷ sceneCase 9 16385 90 0 thresholdsM setT 90 (10 ∷ [])
+    ∷ sceneCase 9 10 89 6 thresholdsM setT 90 (2 ∷ [])
+    ∷ sceneCase 9 10 90 6 (thresholdsOf 0x7fc00000 0x3f800000 0x41200000 0x3ff38cb4 0x4084cbdf) setT 90 (3 ∷ [])
+    ∷ sceneCase 9 10 90 0 (thresholdsOf 0x7fc00000 0x3f800000 0x41200000 0x3ff38cb4 0x4084cbdf) blank 90 (8 ∷ [])
+    ∷ sceneCase 9 10 90 0 thresholdsM blank 89 (4 ∷ [])
+    ∷ sceneCase 9 10 90 0 thresholdsM setT 89 (6 ∷ [])
+    ∷ sceneCase 9 4097 36873 0 thresholdsM setT 36863 (6 ∷ [])
+    ∷ sceneCase 9 4097 36873 0 thresholdsM setT 36864 (0 ∷ [])
+    -- A spot at col 4 of the second tile displaced by 0.49999 is at home at the tile's col 4, which is the scene's 4,092; of the untiled scene it would be 4,093.
+    ∷ homeCase 4 0x3efffeb0 4
+    ∷ homeCase 4092 0x3efffeb0 4093
     ∷ []

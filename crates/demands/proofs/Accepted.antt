@@ -7,7 +7,7 @@ use Rattle.record.specs.Readable.{readable, Finite}
 use Rattle.record.proofs.ReadableLaws.{readable-parts}
 use Rattle.pixel.specs.Verdict.{wholeOf}
 use Rattle.samples.specs.Level.{Maps, nineAt}
-use Rattle.alp.specs.Due.{due}
+use Rattle.detect.specs.Due.{due}
 use Rattle.demands.specs.List.{Stands}
 use Rattle.demands.proofs.Listed.{list-is, own-key}
 

@@ -9,9 +9,9 @@ use Rattle.tables.specs.declared.Thresholds.{Thresholds}
 use Rattle.tables.specs.declared.Checked.{Checked}
 use Rattle.tables.specs.declared.Checked.the-variants.{Fine, Bad}
 use Rattle.samples.specs.Level.{Maps, mapsOf}
-use Rattle.alp.specs.Due.{due}
-use Rattle.alp.specs.Detect.{detected, detectOf}
-use Rattle.alp.specs.declared.Answer.the-variants.{Found}
+use Rattle.detect.specs.Due.{due}
+use Rattle.detect.specs.Detect.{detected, detectOf}
+use Rattle.detect.specs.declared.Answer.the-variants.{Found}
 use Rattle.demands.specs.TwoMaps.{spared, Lossy, Struck, lists}
 use Rattle.demands.proofs.TwoMaps.{two-maps}
 

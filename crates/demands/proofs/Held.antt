@@ -22,7 +22,7 @@ use Rattle.pixel.specs.Gate.{sigmaOf, peakOf}
 use Rattle.pixel.specs.Verdict.{anchorOf, recordOf}
 use Rattle.pixel.specs.Rules.{cubicsAt, ownSamples}
 use Rattle.samples.specs.Level.{Maps, stencilOf, sampleAt, samplesOf, samplesAt, nineAt}
-use Rattle.alp.specs.Due.{due}
+use Rattle.detect.specs.Due.{due}
 use Rattle.grid.proofs.GridLaws.{area}
 use Rattle.samples.proofs.LevelLaws.{nine-centre}
 use Rattle.demands.specs.List.{Stands, AdmitsAt}

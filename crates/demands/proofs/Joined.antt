@@ -22,10 +22,10 @@ use Rattle.record.proofs.LayoutLaws.{length-written, laid-first}
 use Rattle.record.proofs.RoundTrip.{recordAt-laid}
 use Rattle.record.proofs.Converse.{same-bytes-same-record}
 use Rattle.samples.specs.Level.{Maps, mapsOf}
-use Rattle.alp.specs.Due.{due}
-use Rattle.alp.specs.Detect.{Outcome, detectOf}
-use Rattle.alp.specs.declared.Answer.the-variants.{Found}
-use Rattle.alp.proofs.RefusalsLaws.{found-passed}
+use Rattle.detect.specs.Due.{due}
+use Rattle.detect.specs.Detect.{Outcome, detectOf}
+use Rattle.detect.specs.declared.Answer.the-variants.{Found}
+use Rattle.detect.proofs.RefusalsLaws.{found-passed}
 use Rattle.join.specs.Sized.{sizedWidth}
 use Rattle.join.specs.Join.{firstBad, joinChecks, joined, joinOf}
 use Rattle.demands.specs.List.{StandsAt}

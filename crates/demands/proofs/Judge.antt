@@ -7,7 +7,7 @@ use Rattle.pixel.specs.declared.Verdict.the-variants.{Listed, Nothing}
 use Rattle.pixel.specs.Verdict.{wholeOf, polarityOf}
 use Rattle.pixel.proofs.VerdictLaws.{listed-admits, admits-listed, listed-key, listed-polarity, not-whole}
 use Rattle.samples.specs.Level.{Maps, nineAt}
-use Rattle.alp.specs.Due.{judgeOf}
+use Rattle.detect.specs.Due.{judgeOf}
 use Rattle.demands.specs.List.{AdmitsAt}
 
 module _ (m : Maps) (row col : ℕ) (isMax : Bool) where

@@ -13,7 +13,7 @@ use Rattle.pixel.specs.declared.Verdict.the-variants.{Listed, Nothing}
 use Rattle.pixel.specs.Verdict.{polarityOf}
 use Rattle.samples.specs.Level.{Maps}
 use Rattle.pixel.specs.Listed.{listed}
-use Rattle.alp.specs.Due.{judgeOf, pixelDue, rowDue, rowsDue, due}
+use Rattle.detect.specs.Due.{judgeOf, pixelDue, rowDue, rowsDue, due}
 use Rattle.pixel.proofs.ListedLaws.{listed-short}
 use Rattle.demands.specs.List.{StandsAt, Stands, Judged, AdmitsAt, Admitted, Rising, Of, OnlyOne}
 use Rattle.demands.proofs.Judge.{judged-admits, admits-judged, judged-key, judged-polarity}

@@ -16,7 +16,7 @@ use Rattle.pixel.specs.declared.Verdict.the-variants.{Listed, Nothing}
 use Rattle.pixel.specs.Verdict.{wholeOf}
 use Rattle.samples.specs.Level.{Maps, mapsOf, nineAt}
 use Rattle.pixel.specs.Listed.{listed}
-use Rattle.alp.specs.Due.{judgeOf, pixelDue, rowDue, rowsDue, due}
+use Rattle.detect.specs.Due.{judgeOf, pixelDue, rowDue, rowsDue, due}
 use Rattle.demands.specs.List.{Judged, AdmitsAt}
 use Rattle.demands.specs.TwoMaps.{of21, clear, spared, keep, Same, Lossy}
 use Rattle.float.proofs.Bools.{contrary, excluded}

@@ -10,8 +10,8 @@ use Rattle.record.specs.declared.Record.{Record}
 use Rattle.record.specs.Layout.{laid}
 use Rattle.grid.specs.Grid.{pixelAt}
 use Rattle.samples.specs.Level.{Maps}
-use Rattle.alp.specs.Detect.{Outcome, outcome}
-use Rattle.alp.specs.declared.Answer.the-variants.{Found}
+use Rattle.detect.specs.Detect.{Outcome, outcome}
+use Rattle.detect.specs.declared.Answer.the-variants.{Found}
 
 -- ---- the 21 pixels
 

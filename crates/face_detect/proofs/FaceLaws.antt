@@ -18,10 +18,10 @@ use Rattle.tables.specs.Refusal.{number, Check, unless, saidAt, readSetOf}
 use Rattle.tables.proofs.SetLaws.{read-good}
 use Rattle.tables.proofs.RefusalLaws.{said-bad}
 use Rattle.checks.specs.Checks.{detectChecks}
-use Rattle.alp.specs.Detect.{Outcome, outcome, detectOf}
-use Rattle.alp.specs.declared.Answer.{Answer}
-use Rattle.alp.specs.declared.Answer.the-variants.{Found, Refused}
-use Rattle.alp.proofs.RefusalsLaws.{refused-first, first-answered}
+use Rattle.detect.specs.Detect.{Outcome, outcome, detectOf}
+use Rattle.detect.specs.declared.Answer.{Answer}
+use Rattle.detect.specs.declared.Answer.the-variants.{Found, Refused}
+use Rattle.detect.proofs.RefusalsLaws.{refused-first, first-answered}
 use Rattle.face.specs.Face.{Left, left}
 use Rattle.face_detect.specs.Face.{packed, leftBy, detectFace}
 

@@ -4,9 +4,9 @@ use mathlib.Core.List.{List}
 use lib.Ieee.{Float}
 use Rattle.tables.specs.declared.Thresholds.{Thresholds}
 use Rattle.tables.specs.Refusal.{number, value, readSetOf}
-use Rattle.alp.specs.Detect.{Outcome, detectOf}
-use Rattle.alp.specs.declared.Answer.{Answer}
-use Rattle.alp.specs.declared.Answer.the-variants.{Found, Refused}
+use Rattle.detect.specs.Detect.{Outcome, detectOf}
+use Rattle.detect.specs.declared.Answer.{Answer}
+use Rattle.detect.specs.declared.Answer.the-variants.{Found, Refused}
 use Rattle.face.specs.Face.{Packed, Left, left}
 
 -- 0 and the count, or the refusal's number and the value that goes with it

@@ -2,7 +2,7 @@
 ghost use mathlib.Core.Path.{_≡_};
 ghost use Rattle.face.specs.Face.{left};
 ghost use Rattle.face_detect.specs.Face.{packed, detectFace};
-use alp::Answer;
+use detect::Answer;
 use tables::Thresholds;
 
 // The number of an answer: 0, or that of the refusal.
@@ -46,7 +46,7 @@ pub fn detect<'a>(
 {
     let read = tables::read_set(set);
     let tables = read.set;
-    let answer = alp::detect(tables, thresholds, rows, cols, octave, l0, l1, l2, l3, out);
+    let answer = detect::detect(tables, thresholds, rows, cols, octave, l0, l1, l2, l3, out);
     *value = value_of(answer);
     number_of(answer)
 }

@@ -14,7 +14,7 @@ use Rattle.record.proofs.LayoutLaws.{length-recordBytes, length-bytesOf}
 use Rattle.record.proofs.RoundTrip.{recordFrom-recordBytes}
 use Rattle.join.specs.Join.{recordsFrom, recordsOf}
 use Rattle.samples.specs.Level.{Maps}
-use Rattle.alp.specs.Due.{due}
+use Rattle.detect.specs.Due.{due}
 use Rattle.demands.specs.TwoMaps.{spared, keep, Lossy}
 use Rattle.demands.proofs.TwoMaps.{two-maps}
 use Rattle.demands.proofs.Held.{list-held}

@@ -19,7 +19,7 @@ use Rattle.samples.specs.Level.{Maps, mapsOf}
 use Rattle.demands.specs.TwoMaps.{spared, keep, Lossy}
 use Rattle.demands.proofs.TwoMaps.{keep-append, pixel-two}
 use Rattle.pixel.specs.Listed.{listed}
-use Rattle.alp.specs.Due.{judgeOf, pixelDue, due}
+use Rattle.detect.specs.Due.{judgeOf, pixelDue, due}
 use Rattle.demands.specs.List.{StandsAt, Admitted, Before}
 use Rattle.demands.proofs.Judge.{judged-admits, admits-judged, judged-key, judged-polarity}
 use Rattle.demands.proofs.Listed.{verdict-only, OfPixel, pixel-only, pixel-all, pixel-key, list-is, list-rises}

@@ -13,8 +13,8 @@ use Rattle.grid.specs.Grid.{pixelAt, Stored}
 use Rattle.grid.proofs.StoredLaws.{stored-at, stored-before, stored-past}
 use Rattle.samples.specs.Level.{Maps, sampleAt, samplesOf, nineAt, samplesAt}
 use Rattle.samples.proofs.LevelLaws.{length-nine, nine-place, nine-built}
-use Rattle.alp.specs.Due.{pixelDue}
-use Rattle.alp.proofs.DueLaws.{pixel-both}
+use Rattle.detect.specs.Due.{pixelDue}
+use Rattle.detect.proofs.DueLaws.{pixel-both}
 use Rattle.ring.specs.declared.State.{State}
 use Rattle.samples.specs.Four.{Four}
 use Rattle.ring.specs.Ring.{slotOf, pixelFed, sampleFed, samplesFed, nineFed, pixelSpots, columnSpots, kept, stored}

@@ -19,9 +19,9 @@ use Rattle.record.specs.declared.Record.{Record}
 use Rattle.record.specs.Layout.{bytesOf}
 use Rattle.pixel.specs.declared.Frame.{Frame}
 use Rattle.samples.specs.Level.{Maps, mapsOf}
-use Rattle.alp.specs.Due.{due}
+use Rattle.detect.specs.Due.{due}
 use Rattle.checks.specs.Checks.{detectChecks}
-use Rattle.alp.specs.Detect.{detectOf, detected}
+use Rattle.detect.specs.Detect.{detectOf, detected}
 use Rattle.demands.specs.List.{StandsAt, Stands, Admitted}
 use Rattle.demands.specs.TwoMaps.{spared, keep, Lossy}
 use Rattle.demands.proofs.Judge.{judged-admits}

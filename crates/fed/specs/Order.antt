@@ -7,7 +7,7 @@ use mathlib.Core.List.{List, [], _∷_, _++_}
 use lib.Dec.{ltb, eqb}
 use Rattle.record.specs.declared.Record.{Record}
 use Rattle.samples.specs.Level.{Maps}
-use Rattle.alp.specs.Due.{pixelDue}
+use Rattle.detect.specs.Due.{pixelDue}
 use Rattle.demands.specs.List.{Before}
 
 -- what the first n judged pixels of a column list: those at the rows 4 to n + 3

@@ -69,7 +69,7 @@ fn home_of(r: Record) -> Home
 }
 
 // A u16's two bytes from the byte at on, the lower first.
-fn put_half(out: &mut [u8], at: usize, v: usize)
+pub fn put_half(out: &mut [u8], at: usize, v: usize)
     requires { ⌜ at + 2 ≤ length (now out) ⌝ }
     requires { ⌜ v < 2 ^ 16 ⌝ }
     ensures { λ _. ⌜ now (out .exit) ≡ sets (now (out .entry)) at (halfBytes v) ⌝ }

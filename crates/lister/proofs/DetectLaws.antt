@@ -6,7 +6,7 @@ use lib.ListN.{take}
 use lib.Ieee.{Float}
 use Rattle.tables.specs.declared.Set.{Set}
 use Rattle.tables.specs.declared.Thresholds.{Thresholds}
-use Rattle.alp.specs.Detect.{detectOf}
+use Rattle.detect.specs.Detect.{detectOf}
 use Rattle.input.specs.Input.{setFrom, thresholdsFrom, rowsFrom, colsFrom, octaveFrom, areaFrom, levelArray}
 use Rattle.input.proofs.InputLaws.{level-start}
 use Rattle.lister.specs.Detect.{detectFrom}

@@ -15,13 +15,13 @@ use Rattle.tables.specs.Refusal.{Check, number, unless, firstOf, saidAt, First}
 use Rattle.tables.proofs.RefusalLaws as laws
 use Rattle.record.specs.declared.Record.{Record}
 use Rattle.record.specs.Layout.{spotWidth, bytesOf, written}
-use Rattle.alp.specs.Due.{due}
+use Rattle.detect.specs.Due.{due}
 use Rattle.checks.specs.Checks.{detectChecks}
-use Rattle.alp.specs.Detect.{Outcome, outcome}
-use Rattle.alp.specs.declared.Answer.{Answer}
-use Rattle.alp.specs.declared.Answer.the-variants.{Found, Refused}
-use Rattle.alp.proofs.RefusalsLaws.{first-answered as detect-refuses, none-found as detect-finds}
-use Rattle.alp.proofs.Promise.{answer-same, first-written}
+use Rattle.detect.specs.Detect.{Outcome, outcome}
+use Rattle.detect.specs.declared.Answer.{Answer}
+use Rattle.detect.specs.declared.Answer.the-variants.{Found, Refused}
+use Rattle.detect.proofs.RefusalsLaws.{first-answered as detect-refuses, none-found as detect-finds}
+use Rattle.detect.proofs.Promise.{answer-same, first-written}
 use Rattle.text.specs.Text.{linesOf, linesIn, foundLine, refusedLine, Wrote}
 use Rattle.text.proofs.TextLaws.{lines-of-bytes}
 use Rattle.input.specs.Input.{setFrom, thresholdsFrom, rowsFrom, colsFrom, octaveFrom, areaFrom, levelFrom, listChecks}

@@ -2,7 +2,7 @@
 use Prim.Native.Nat.{ℕ}
 use mathlib.Core.List.{List}
 use Rattle.samples.specs.Level.{Maps, mapsOf}
-use Rattle.alp.specs.Detect.{Outcome, detectOf}
+use Rattle.detect.specs.Detect.{Outcome, detectOf}
 use Rattle.input.specs.Input.{setFrom, thresholdsFrom, rowsFrom, colsFrom, octaveFrom, levelFrom}
 
 -- its outcome, with the list in the buffer out

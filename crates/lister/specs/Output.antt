@@ -7,9 +7,9 @@ use Rattle.tables.specs.declared.Checked.{Checked}
 use Rattle.tables.specs.declared.Checked.the-variants.{Fine, Bad}
 use Rattle.tables.specs.Refusal.{number, firstOf}
 use Rattle.record.specs.declared.Record.{Record}
-use Rattle.alp.specs.Due.{due}
-use Rattle.alp.specs.declared.Answer.{Answer}
-use Rattle.alp.specs.declared.Answer.the-variants.{Found, Refused}
+use Rattle.detect.specs.Due.{due}
+use Rattle.detect.specs.declared.Answer.{Answer}
+use Rattle.detect.specs.declared.Answer.the-variants.{Found, Refused}
 use Rattle.text.specs.Text.{linesOf, foundLine, refusedLine}
 use Rattle.input.specs.Input.{listChecks}
 use Rattle.lister.specs.Detect.{detectFrom, mapsFrom}

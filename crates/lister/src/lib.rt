@@ -4,11 +4,11 @@ ghost use Prim.Native.Nat.{min};
 ghost use Rattle.io.specs.Counts.{Counts};
 ghost use Rattle.tables.specs.declared.Checked.the-variants.{Fine};
 ghost use Rattle.tables.specs.Refusal.{firstOf};
-ghost use Rattle.alp.specs.Detect.{outcome};
+ghost use Rattle.detect.specs.Detect.{outcome};
 ghost use Rattle.input.specs.Input.{listChecks};
 ghost use Rattle.lister.specs.Detect.{detectFrom};
 ghost use Rattle.lister.specs.Output.{mostShown, tileOutput, listOutput, Begins};
-use alp::Answer;
+use detect::Answer;
 use tables::Checked;
 
 // How many records are printed at most.

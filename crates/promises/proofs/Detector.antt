@@ -22,7 +22,9 @@ use Rattle.feed.proofs.feed_start as feed-start
 use Rattle.feed.proofs.feed_column as feed-column
 use Rattle.states.proofs.start as start
 use Rattle.states.proofs.column as column
-use Rattle.alp.proofs.detect as detect
+use Rattle.detect.proofs.detect as detect
+use Rattle.tiles.proofs.tiles_of as tiles-of
+use Rattle.scene.proofs.scene as scene
 use Rattle.join.proofs.join as join
 use Rattle.size.proofs.correct as correct
 use Rattle.kernels.proofs.gauss.gaussian as gaussian
@@ -106,6 +108,15 @@ module _ {M : Type 1} (𝓤 : URA M) (H : Heap 𝓤) (A : Atoms 𝓤) (mem : Mem
 
   pub levels-settled : Settles 𝓤 levels.ended (levels.clauses 𝓤 H A mem run)
   levels-settled κs a g g' r r' ws ws' = one-value 𝓤 _ _ _ (λ x. x .answer) (λ x. untouched 5 (x .l0, (x .l1, (x .l2, (x .l3, tt)))))
+
+  -- ---- a scene
+
+  pub tiles-of-settled : Settles 𝓤 tiles-of.ended (tiles-of.clauses 𝓤 H A mem run)
+  tiles-of-settled κs a g g' r r' ws ws' = one-answer 𝓤 _
+
+  -- a scene's answer, the four tile slices and the output
+  pub scene-settled : Settles 𝓤 scene.ended (scene.clauses 𝓤 H A mem run)
+  scene-settled κs a g g' r r' ws ws' = one-value 𝓤 _ _ _ (λ x. x .answer) (λ x. untouched 9 (x .t0, (x .t1, (x .t2, (x .t3, (x .out, tt))))))
 
   -- ---- a level and its view
 

@@ -15,6 +15,7 @@ use Rattle.alp_c.proofs.uramsheg_levels as uramsheg-levels
 use Rattle.alp_c.proofs.uramsheg_set_check as uramsheg-set-check
 use Rattle.alp_c.proofs.uramsheg_feed_start as uramsheg-feed-start
 use Rattle.alp_c.proofs.uramsheg_feed_column as uramsheg-feed-column
+use Rattle.alp_c.proofs.uramsheg_scene as uramsheg-scene
 use Rattle.promises.specs.Settles.{Settles}
 use Rattle.promises.proofs.Facts.{one-value, one-answer, untouched}
 
@@ -46,3 +47,7 @@ module _ {M : Type 1} (𝓤 : URA M) (H : Heap 𝓤) (A : Atoms 𝓤) (mem : Mem
   pub uramsheg-feed-column-settled : Settles 𝓤 uramsheg-feed-column.ended (uramsheg-feed-column.clauses 𝓤 H A mem run)
   uramsheg-feed-column-settled κs a g g' r r' ws ws' =
       one-value 𝓤 _ _ _ (λ x. x .number) (λ x. (x .state, untouched 4 (x .ring .l0, (x .ring .l1, (x .ring .l2, (x .ring .l3, (x .out, (x .value, tt))))))))
+
+  pub uramsheg-scene-settled : Settles 𝓤 uramsheg-scene.ended (uramsheg-scene.clauses 𝓤 H A mem run)
+  uramsheg-scene-settled κs a g g' r r' ws ws' =
+      one-value 𝓤 _ _ _ (λ x. x .number) (λ x. untouched 13 (x .t0, (x .t1, (x .t2, (x .t3, (x .out, (x .value, tt)))))))

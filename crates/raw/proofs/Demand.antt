@@ -20,9 +20,9 @@ use Rattle.samples.specs.Level.{Maps, mapsOf}
 use Rattle.levels.specs.Levels.{levelsOf}
 use Rattle.levels.specs.declared.Blurred.the-variants.{Made}
 use Rattle.levels.proofs.LevelsLaws.{made-is, placed-exact}
-use Rattle.alp.specs.Due.{due}
-use Rattle.alp.specs.Detect.{detectOf}
-use Rattle.alp.specs.declared.Answer.the-variants.{Found}
+use Rattle.detect.specs.Due.{due}
+use Rattle.detect.specs.Detect.{detectOf}
+use Rattle.detect.specs.declared.Answer.the-variants.{Found}
 use Rattle.kernels.specs.declared.Kernel.{Kernel}
 use Rattle.kernels.specs.Kernel.{kernelsOf}
 use Rattle.kernels.proofs.Radii.{radii-rise}

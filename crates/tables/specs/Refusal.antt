@@ -6,7 +6,7 @@ use mathlib.Core.Path.{_≡_}
 use lib.Dec.{ltb}
 use lib.Ieee.{isNan}
 use Rattle.tables.specs.declared.Refusal.{Refusal}
-use Rattle.tables.specs.declared.Refusal.the-variants.{Size, Level, Octave, BadSet, Records, Room, NoSize, Thresholds, Past}
+use Rattle.tables.specs.declared.Refusal.the-variants.{Size, Level, Octave, BadSet, Records, Room, NoSize, Thresholds, Past, Scene}
 use Rattle.tables.specs.declared.Missing.{Missing}
 use Rattle.tables.specs.declared.Missing.the-variants.{Polarity, Range}
 use Rattle.tables.specs.declared.Checked.{Checked}
@@ -32,6 +32,7 @@ number Room = 6
 number (NoSize why) = 7
 number Thresholds = 8
 number Past = 9
+number Scene = 10
 
 -- the value that goes with it: a bad record's index, the cause of a missing size, else 0
 unfoldable pub value : Refusal → ℕ
@@ -44,6 +45,7 @@ value BadSet = 0
 value Room = 0
 value Thresholds = 0
 value Past = 0
+value Scene = 0
 
 -- refuse r where the test holds, and look further otherwise
 unfoldable pub unless : Bool → Refusal → Checked → Checked

@@ -48,6 +48,7 @@ pub enum Refusal {
     NoSize(Missing),
     Thresholds,
     Past,
+    Scene,
 }
 
 // The outcome of a check.

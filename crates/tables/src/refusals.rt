@@ -28,6 +28,7 @@ pub fn number_of(why: Refusal) -> u32
         Refusal::NoSize(_) => 7,
         Refusal::Thresholds => 8,
         Refusal::Past => 9,
+        Refusal::Scene => 10,
     }
 }
 
@@ -45,5 +46,6 @@ pub fn value_of(why: Refusal) -> u64
         Refusal::Room => 0,
         Refusal::Thresholds => 0,
         Refusal::Past => 0,
+        Refusal::Scene => 0,
     }
 }

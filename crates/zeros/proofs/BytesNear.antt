@@ -19,7 +19,7 @@ use Rattle.words.specs.Words.{wordBytes, floatBytes}
 use Rattle.record.specs.Layout.{spotWidth, floats4, recordBytes, bytesOf, laid}
 use Rattle.record.proofs.LayoutLaws.{length-recordBytes, length-bytesOf}
 use Rattle.samples.specs.Level.{Maps}
-use Rattle.alp.specs.Due.{due}
+use Rattle.detect.specs.Due.{due}
 use Rattle.zeros.specs.Alike.{RecordNear, RecordsNear, none, more, withPeak}
 use Rattle.zeros.specs.Choices.{Choices, AllAllowed, dueBy}
 use Rattle.zeros.specs.Bytes.{BytesNear, ZeroPeaks, ByteNear}

@@ -11,7 +11,7 @@ use Rattle.record.specs.declared.Record.{Record}
 use Rattle.pixel.specs.declared.Verdict.{Verdict}
 use Rattle.samples.specs.Level.{Maps, nineAt}
 use Rattle.pixel.specs.Listed as Listed
-use Rattle.alp.specs.Due as Due
+use Rattle.detect.specs.Due as Due
 use Rattle.zeros.specs.Alike.{RecordNear, VerdictNear, nothing, listed, RecordsNear, none, more, withPeak, peakless}
 use Rattle.zeros.specs.Choices.{Choices, AllAllowed, allOurs, judgeBy, pixelDueBy, rowDueBy, rowsDueBy, dueBy}
 use Rattle.zeros.proofs.PixelNear.{verdict~}

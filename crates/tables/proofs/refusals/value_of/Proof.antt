@@ -37,6 +37,9 @@ enum-told-6 c = search needs
 enum-told-7 : tie.Need-enum-told-7
 enum-told-7 c = search needs
 
+enum-told-8 : tie.Need-enum-told-8
+enum-told-8 c = search needs
+
 returns : tie.Need-returns
 unfolding value
 returns c = rw (c .before .why .given .1)
@@ -73,6 +76,10 @@ returns-9 : tie.Need-returns-9
 unfolding value
 returns-9 c = rw (c .enum-told7 .given .1)
 
+returns-10 : tie.Need-returns-10
+unfolding value
+returns-10 c = rw (c .enum-told8 .given .1)
+
 pub value-of-spec : {M : Type 1} → statement M
 value-of-spec =
     tie.close
@@ -88,6 +95,7 @@ value-of-spec =
     enum-told-5
     enum-told-6
     enum-told-7
+    enum-told-8
     returns
     returns-2
     returns-3
@@ -96,4 +104,5 @@ value-of-spec =
     returns-6
     returns-7
     returns-8
-    returns-9)
+    returns-9
+    returns-10)

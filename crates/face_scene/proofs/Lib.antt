@@ -1,0 +1,2 @@
+-- What a scene's face leaves.
+pub mod FaceLaws

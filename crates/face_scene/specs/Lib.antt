@@ -1,0 +1,2 @@
+-- The definitions that the contract of a scene's face cites.
+pub mod Face
