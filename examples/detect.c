@@ -4,18 +4,13 @@
 #include <stdio.h>
 #include <string.h>
 
+#include "spot.h"
 #include "uramsheg.h"
 
 enum { ROWS = 9, COLS = 10 };
 
 static void put(uint8_t *record, int word, float x) {
     memcpy(record + 4 * word, &x, 4); /* the record is little-endian, as this machine is */
-}
-
-static float get(const uint8_t *record, int word) {
-    float x;
-    memcpy(&x, record + 4 * word, 4);
-    return x;
 }
 
 /* Set T: sigmas 1 to 4, simple cubics, and a fit that moves a spot by a quarter of its centre's value. */
@@ -32,15 +27,6 @@ static void set_t(uint8_t set[URAMSHEG_SET_BYTES]) {
     }
     for (int i = 0; i < 11; i++) put(set, 118 + i, numbers[i]);
     for (int i = 0; i < 9; i++) set[516 + i] = (uint8_t)i;
-}
-
-/* Why a spot has no size, in words. */
-static const char *why(uint64_t cause) {
-    switch (cause) {
-    case URAMSHEG_NO_SIZE_POLARITY: return "no size: the curve is not one of this polarity";
-    case URAMSHEG_NO_SIZE_RANGE: return "no size: beyond the fitted range";
-    default: return "no size";
-    }
 }
 
 int main(void) {
@@ -75,7 +61,7 @@ int main(void) {
         if (spot[48])
             printf("spot %" PRIu64 ", home pixel (%u, %u): size %g\n", i, row, col, get(spot, 10));
         else
-            printf("spot %" PRIu64 ", home pixel (%u, %u): %s\n", i, row, col, why(spot[49]));
+            printf("spot %" PRIu64 ", home pixel (%u, %u): %s\n", i, row, col, why_no_size(spot[49]));
     }
 
     /* One spot's size by itself: the same samples and sigma, but as a minimum, give none, and the cause says why. */
@@ -84,6 +70,6 @@ int main(void) {
         printf("the correction answered %" PRIu32 "\n", refused);
         return 1;
     }
-    printf("as a minimum: %s\n", why(cause));
+    printf("as a minimum: %s\n", why_no_size(cause));
     return 0;
 }

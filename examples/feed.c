@@ -9,8 +9,8 @@
 #include <stdint.h>
 #include <stdio.h>
 #include <stdlib.h>
-#include <string.h>
 
+#include "spot.h"
 #include "uramsheg.h"
 
 /* The slices are 1,024 floats longer than they need be: the header says why. */
@@ -64,12 +64,6 @@ static uint32_t give(const float *columns, size_t rows, uint64_t *found) {
         out = malloc(URAMSHEG_SPOT_BYTES * room);
         if (!out) exit(fail("there is no memory for more spots"));
     }
-}
-
-static float get(const uint8_t *record, int word) {
-    float x;
-    memcpy(&x, record + 4 * word, 4); /* the record is little-endian, as this machine is */
-    return x;
 }
 
 /* Prints the spots of the column that was judged, and sees that they leave at once. */

@@ -5,32 +5,17 @@
 #include <stdint.h>
 #include <stdio.h>
 #include <stdlib.h>
-#include <string.h>
 
 #include "map.h"
+#include "spot.h"
 #include "uramsheg.h"
 
 enum { SPOTS = 64 };
 static float raw[MOST], level[4][MOST];
 
-static float get(const uint8_t *record, int word) {
-    float x;
-    memcpy(&x, record + 4 * word, 4); /* the record is little-endian, as this machine is */
-    return x;
-}
-
 static int fail(const char *what) {
     fprintf(stderr, "%s\n", what);
     return 1;
-}
-
-/* Why a spot has no size, in words. */
-static const char *why(uint8_t cause) {
-    switch (cause) {
-    case URAMSHEG_NO_SIZE_POLARITY: return "no size: the curve is not one of this polarity";
-    case URAMSHEG_NO_SIZE_RANGE: return "no size: beyond the fitted range";
-    default: return "no size";
-    }
 }
 
 static size_t lost(const float *floats, size_t count) {
@@ -77,7 +62,7 @@ int main(int count, char **words) {
         if (spot[48])
             printf("size %.2f\n", get(spot, 10));
         else
-            printf("%s\n", why(spot[49]));
+            printf("%s\n", why_no_size(spot[49]));
     }
     return 0;
 }

@@ -1,11 +1,11 @@
-/* Uramsheg's detector: makes the four blurred levels of a raw gas map, lists the spots of four levels, whole or column by column, and gives each its size. Proved in Rattle; see
- * docs/PROMISES.md.
+/* Uramsheg's detector: makes the four blurred levels of a raw gas map, lists the spots of four levels, whole, column by column or, of a large scene, tile by
+ * tile, and gives each its size. Proved in Rattle; see docs/PROMISES.md.
  *
  * Link with libalp_c.a (`tests/staticlib alp_c` writes target/staticlib/libalp_c.a); it needs nothing else.
  * Every call ends, whatever it is given. A slice is a pointer and its length in elements; a pointer must be valid for that length, and what is written to
  * must overlap nothing else.
  *
- * A raw map, and a level: rows * cols floats by columns, pixel (row, col) at col * rows + row. Sides are 0 to 4096.
+ * A raw map, and a level: rows * cols floats by columns, pixel (row, col) at col * rows + row. Sides are 0 to 4096, of a scene 0 to 16384.
  *
  * A set record (528 bytes, little-endian): 4 sigmas; 12 scale cubic entries and 12 geometry cubic entries (rows a, b, c, d of three); 45 spatial
  * entries (rows w1 to w5 of nine) for scale index 1, then 45 for 2; 11 numbers (log sigma origin, curvature epsilon, fit T min, T max, accepted sigma
@@ -41,19 +41,24 @@ extern "C" {
 
 enum { URAMSHEG_SET_BYTES = 528, URAMSHEG_SPOT_BYTES = 40, URAMSHEG_SIZED_BYTES = 52, URAMSHEG_FEED_BYTES = 564, URAMSHEG_RING_COLUMNS = 5 };
 
+/* A scene: its records' bytes, its longest side, how far apart its tiles start, and how long they are. */
+enum { URAMSHEG_SCENE_BYTES = 56, URAMSHEG_SCENE_LONGEST = 16384, URAMSHEG_TILE_STEP = 4088, URAMSHEG_TILE_LENGTH = 4096 };
+
 /* What a call answers: 0, or why it was refused. Of the call's checks, in its order, the first that holds is answered; each call gives its order below,
  * and the numbers say nothing about it. */
 enum {
     URAMSHEG_DONE = 0,
-    URAMSHEG_REFUSED_SIZE = 1,      /* rows or cols above 4096: cut the map into tiles */
+    URAMSHEG_REFUSED_SIZE = 1,      /* rows or cols above 4096: cut the map into tiles, as uramsheg_scene does with levels */
     URAMSHEG_REFUSED_LEVEL = 2,     /* a level, or the raw map, is not rows * cols long; a feed's column is not rows long */
     URAMSHEG_REFUSED_OCTAVE = 3,    /* octave above 5 */
     URAMSHEG_REFUSED_SET = 4,       /* the set record is not 528 bytes long or not good */
     URAMSHEG_REFUSED_RECORDS = 5,   /* the list is no whole number of records (*value is how many are whole), or holds a bad one (*value is its index) */
-    URAMSHEG_REFUSED_ROOM = 6,      /* the output, one of four levels or of a ring's slices, or the room for a feed's state is shorter than needed */
+    URAMSHEG_REFUSED_ROOM = 6,      /* the output, one of four levels, of a ring's or a scene's tile slices, or the room for a feed's state is shorter than
+                                       needed; of a scene alone *value is then the number of tiles that were written whole */
     URAMSHEG_REFUSED_NO_SIZE = 7,   /* the spot has no size; *cause says why */
     URAMSHEG_REFUSED_THRESHOLDS = 8, /* a threshold is not a number: one of the five is a NaN, as a blank in a sheet reads */
-    URAMSHEG_REFUSED_PAST = 9        /* all columns of the feed have come: start another */
+    URAMSHEG_REFUSED_PAST = 9,       /* all columns of the feed have come: start another */
+    URAMSHEG_REFUSED_SCENE = 10      /* rows or cols of a scene above 16384: cut it into several */
 };
 
 /* Why a spot has no size: of the two, in this order, the first that holds. It stands in byte 49 of a sized record, and in *cause beside 7. */
@@ -135,6 +140,43 @@ uint32_t uramsheg_feed_column(uint8_t *state, size_t state_length,
  * uramsheg_detect for the same rows and cols are never refused with 5. */
 uint32_t uramsheg_join(const uint8_t *set, size_t set_length, size_t rows, size_t cols,
                        const uint8_t *list, size_t list_length, uint8_t *out, size_t out_length, uint64_t *value);
+
+/* A scene: the sized spots of four levels with sides to 16,384, cut into tiles. Each tile is copied, detected and joined as a map of its own.
+ *
+ * The tiles: along a side of n pixels tile k starts at 4088 * k and is 4,096 pixels long, or as many as are left. Another follows only while pixels past
+ * it remain: there are 1 + (n - 9) / 4088 tiles, the quotient rounded down, and 1 where n is under 9. A side of 0 has one tile of no pixels. A tile shares 8
+ * pixels with the one before it. The four pixels at a tile's sides are not judged in it, so that each pixel of the scene, but for the four at the scene's
+ * own sides, is judged in exactly one tile.
+ *
+ * A scene's record (56 bytes, little-endian): 0 tile row u16, 2 tile col u16 (the tile's numbers k, not its first pixel); 4 the sized record, as
+ * uramsheg_join gives it for the tile.
+ * x, y, order key and home pixel are the tile's own. In the scene x is 4088 * tile col + x and y is 4088 * tile row + y, both exact in a double, and the
+ * pixel that the spot was found at is (4088 * tile row + key / w, 4088 * tile col + key % w), w the tile's cols.
+ * All else is the scene's: sigma, peak, samples, octave, index, polarity, corrected sigma, accepted and cause are what uramsheg_detect and uramsheg_join would
+ * give of the whole scene if they took it, each pixel and polarity once. Places are not: such a list would round what is x 4092.49999 here to the float
+ * 4092.5, and give the spot another home.
+ *
+ * What is lent: four tile slices, one for each level, of at least min(rows, 4096) * min(cols, 4096) floats each, and `out`. Tiles go row by row: (0,0),
+ * (0,1), .., then (1,0), .. A tile's levels are copied to the fronts of the slices by the tile's own rows: pixel (row, col) of a tile of h rows goes to
+ * col * h + row. What is behind a copy is kept: after the call a slice begins with the last copy; behind it stands what longer ones before it left, then what
+ * was there before the call.
+ *
+ * Answers 0 and the number of records in *value; `out` then begins with them, one tile's after the other's, each tile's in the order of its list, and its
+ * later bytes are kept.
+ * Refused (checked in the order 10, 2, 3, 8, 4, 6 for a tile slice; there is no 1), it answers the number, *value is 0, and all five buffers are untouched.
+ * Past these checks, 6 is answered where a tile's records don't all fit in the rest of `out`: *value is the number of tiles before it, those without records
+ * too; `out` begins with exactly their records and its later bytes are kept; the slices begin with the copy of the tile that did not fit. How many records
+ * these are is not told: where `out` was filled with 0xff before the call, a tile row of 65535, which is none, shows where they end.
+ * A tile of more than 3,276 spots is detected twice. The call takes at most some 384 KB of stack and no heap. The levels, the tile slices, `out` and `value`
+ * must not overlap. */
+uint32_t uramsheg_scene(const uint8_t *set, size_t set_length,
+                        float peak_threshold, float sigma_threshold, float curvature_ratio, float window_low, float window_high,
+                        size_t rows, size_t cols, size_t octave,
+                        const float *level0, size_t level0_length, const float *level1, size_t level1_length,
+                        const float *level2, size_t level2_length, const float *level3, size_t level3_length,
+                        float *tile0, size_t tile0_length, float *tile1, size_t tile1_length,
+                        float *tile2, size_t tile2_length, float *tile3, size_t tile3_length,
+                        uint8_t *out, size_t out_length, uint64_t *value);
 
 /* The corrected sigma of a spot with these centre samples, this sigma and this polarity, in *corrected, and 0 in *cause.
  * Refused (checked in the order 4, 7), it neither reads nor writes *corrected, which may be unset; *cause is 0 beside 4, and beside 7 why the spot has no

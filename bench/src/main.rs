@@ -1,9 +1,10 @@
 //! Times the four levels of a raw map: ours and the Rust's blur; then detection on several maps: ours, the Rust's reference and its streaming pass; then the
 //! feed on the same maps, and the sizing of the spots found: our join, and the Rust's correction. One thread, in one run. `bench [SIDE]`; `bench feed [SIDE]`
-//! times the feed alone, `bench sides` detection alone, on four sides.
+//! times the feed alone, `bench sides` detection alone, on four sides, `bench scene [SIDE]` a whole scene.
 mod detection;
 mod feed;
 mod maps;
+mod scene;
 
 use judge::{Logs, RawMap, Set, fixed};
 use std::time::Instant;
@@ -85,13 +86,22 @@ fn fastest(mut run: impl FnMut() -> (f64, usize)) -> (f64, usize) {
     (seconds, results[0].1)
 }
 
+/// The side that a word says, or the usual one.
+fn side_of(word: Option<String>, usual: usize) -> usize {
+    let about = "bench [SIDE | feed [SIDE] | scene [SIDE] | sides]: SIDE is a whole number to 4096, a scene's to 16384";
+    word.map_or(usual, |word| word.parse().expect(about))
+}
+
 fn main() {
     let mut words = std::env::args().skip(1).peekable();
     if words.next_if_eq("sides").is_some() {
         return detection::sides();
     }
+    if words.next_if_eq("scene").is_some() {
+        return scene::table(side_of(words.next(), 8192));
+    }
     let alone = words.next_if_eq("feed").is_some();
-    let side: usize = words.next().map_or(1024, |word| word.parse().expect("bench [SIDE | feed [SIDE] | sides]: SIDE is a whole number to 4096"));
+    let side = side_of(words.next(), 1024);
     let set = fixed::set(SET);
     let blobs = maps::blobs(side, set.sigmas);
     if alone {

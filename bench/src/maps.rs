@@ -42,6 +42,18 @@ pub fn blobs(side: usize, sigmas: [f32; 4]) -> Levels {
     })
 }
 
+/// A square map of the side `part` over and over, on one of the side `side`.
+pub fn repeated(levels: &Levels, part: usize, side: usize) -> Levels {
+    levels.each_ref().map(|level| {
+        let mut whole = Vec::with_capacity(side * side);
+        for col in 0..side {
+            let column = &level[col % part * part..][..part];
+            (0..side).step_by(part).for_each(|row| whole.extend_from_slice(&column[..part.min(side - row)]));
+        }
+        whole
+    })
+}
+
 /// Every pixel times a factor.
 pub fn scaled(levels: &Levels, factor: f32) -> Levels {
     levels.each_ref().map(|level| level.iter().map(|pixel| pixel * factor).collect())

@@ -1,37 +1,17 @@
 /* From C: levels, each refusal in its order, what is kept, how far a lost pixel reaches; the correction, why a size is missing. Says what failed. */
 #include <math.h>
 #include <stdint.h>
-#include <stdio.h>
 #include <stdlib.h>
 #include <string.h>
 
+#include "expect.h"
 #include "uramsheg.h"
-
-static const float kept = -7.25f;
-static int failures = 0;
-
-static void expect(const char *name, bool holds) {
-    printf("%s C %s\n", holds ? "ok" : "FAILED", name);
-    failures += !holds;
-}
-
-/* A set with these sigmas, and nothing else but zeros: good. */
-static void set_of(uint8_t set[URAMSHEG_SET_BYTES], const float sigmas[4]) {
-    memset(set, 0, URAMSHEG_SET_BYTES);
-    memcpy(set, sigmas, 16); /* the record is little-endian, as this machine is */
-}
 
 static float *filled(size_t length, float x) {
     float *all = malloc((length ? length : 1) * sizeof *all);
     if (!all) exit(2);
     for (size_t i = 0; i < length; i++) all[i] = x;
     return all;
-}
-
-static bool all_are(const float *floats, size_t from, size_t to, float x) {
-    for (size_t i = from; i < to; i++)
-        if (memcmp(floats + i, &x, sizeof x)) return false;
-    return true;
 }
 
 typedef struct { uint32_t answer; float *level[4]; } made;
@@ -102,19 +82,6 @@ static bool reaches(const uint8_t *set, size_t octave, size_t row, size_t col, f
     drop(before);
     drop(after);
     return holds;
-}
-
-/* A float at a word of a record. */
-static void put(uint8_t *record, int word, float x) {
-    memcpy(record + 4 * word, &x, 4);
-}
-
-/* Document 01's set T, as far as the correction reads it: the curve is b t^2 + c t, b and c the first two samples less the last. */
-static void set_t(uint8_t set[URAMSHEG_SET_BYTES]) {
-    static const float sigmas[4] = {1, 2, 3, 4}, numbers[11] = {1, 0.5f, -4, 4, 0.5f, 16, 0.5f, 1, 0.125f, 0.5f, 1};
-    set_of(set, sigmas);
-    for (int row = 1; row < 4; row++) put(set, 16 + 3 * row + row - 1, 1);
-    for (int i = 0; i < 11; i++) put(set, 118 + i, numbers[i]);
 }
 
 /* A spot of the samples b, c, 0, 0, and what its correction answers. */

@@ -1,4 +1,5 @@
-/* From C: how many bytes of stack levels, detection and the feed take, each on a painted stack of its own. PROCESSOR and a set's file are given; says what failed. */
+/* From C: how many bytes of stack levels, detection, the feed and a scene take, each on a painted stack of its own. PROCESSOR and a set's file are given; says what
+ * failed. */
 #define _XOPEN_SOURCE 700
 #include <math.h>
 #include <stdint.h>
@@ -11,10 +12,10 @@
 
 enum { SIDE = 300, LONGEST = 4096 };
 
-static uint8_t stack[1 << 20], set[URAMSHEG_SET_BYTES], list[URAMSHEG_SPOT_BYTES * SIDE * SIDE];
+static uint8_t stack[1 << 20], set[URAMSHEG_SET_BYTES], list[URAMSHEG_SCENE_BYTES * SIDE * SIDE];
 static float level[4][SIDE * SIDE];
 static bool is_done;
-static uint64_t spots;
+static uint64_t spots, most;
 
 /* The longest columns, with the widest kernels. */
 static void levels(void) {
@@ -46,16 +47,30 @@ static bool fed(float low, float high) {
     return number == 0;
 }
 
-/* Noise of four heights, some of it lost; under a usual window, and under one that holds 0, by which the pass rules next to nothing out. */
+/* A scene of one tile; those of more take no more. */
+static bool cut(float low, float high) {
+    static float tile[4][SIDE * SIDE];
+    uint64_t found = 0;
+    uint32_t number = uramsheg_scene(set, sizeof set, 0, 0, 12.1f, low, high, SIDE, SIDE, 0, level[0], SIDE * SIDE, level[1], SIDE * SIDE, level[2], SIDE * SIDE,
+                                     level[3], SIDE * SIDE, tile[0], SIDE * SIDE, tile[1], SIDE * SIDE, tile[2], SIDE * SIDE, tile[3], SIDE * SIDE,
+                                     list, sizeof list, &found);
+    spots += found;
+    most = found > most ? found : most;
+    return number == 0;
+}
+
+/* Noise of four heights, some of it lost, and whole noise that halves from level to level and has the most spots; under a usual window, and under one that holds
+ * 0, by which the pass rules next to nothing out. */
 static void noise(bool (*judged)(float low, float high)) {
     static const float heights[4] = {1, 1e-3f, 1e-18f, 1e-40f};
     uint32_t state = 1;
     is_done = true;
     spots = 0;
-    for (int run = 0; run < 4; run++) {
+    for (int run = 0; run < 5; run++) {
         for (int i = 0; i < 4 * SIDE * SIDE; i++) {
+            float height = run < 4 ? heights[run] : 1.0f / (float)(1 << i % 4);
             state = state * 1664525 + 1013904223;
-            level[i % 4][i / 4] = state >> 24 ? ((float)(state >> 8) / 8388608 - 1) * heights[run] : NAN;
+            level[i % 4][i / 4] = state >> 24 || run == 4 ? ((float)(state >> 8) / 8388608 - 1) * height : NAN;
         }
         is_done = is_done && judged(1.9f, 4.1f) && judged(-1, 9);
     }
@@ -65,6 +80,12 @@ static void noise(bool (*judged)(float low, float high)) {
 static void detection(void) { noise(detected); }
 
 static void feed(void) { noise(fed); }
+
+/* A tile of more than 3,276 spots is detected another way, so that one of them must have as many. */
+static void scene(void) {
+    noise(cut);
+    is_done = is_done && most > 3276;
+}
 
 /* The bytes that a call takes of the stack, which is painted before. */
 static size_t taken_by(void (*call)(void)) {
@@ -94,5 +115,6 @@ int main(int count, char **words) {
     fclose(file);
     bool held = holds(words[1], "levels", levels, 51200);
     held = holds(words[1], "detection", detection, 262144) && held;
-    return !(holds(words[1], "the feed", feed, 65536) && held);
+    held = holds(words[1], "the feed", feed, 65536) && held;
+    return !(holds(words[1], "a scene", scene, 393216) && held);
 }

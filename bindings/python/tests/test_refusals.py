@@ -151,7 +151,7 @@ def test_7_no_size(m, samples, sigma, is_max, cause, means):
 
 def test_each_cause_of_the_header_has_the_words_of_the_other_faces():
     assert {getattr(lib, name) for name in dir(lib) if name.startswith("URAMSHEG_NO_SIZE_")} == set(u.NO_SIZE) == set(missing.MEANS) == {1, 2}
-    for place in ("bindings/rust/src/missing.rs", "examples/detect.c", "examples/levels.c"):
+    for place in ("bindings/rust/src/missing.rs", "examples/spot.h"):
         assert all(f'"{words}"' in (cface.ROOT / place).read_text() for words in u.NO_SIZE.values())
     for place in ("bindings/python/README.md", "docs/GUIDE.md"):
         assert all(f"| {cause} | {words} |" in (cface.ROOT / place).read_text() for cause, words in u.NO_SIZE.items())

@@ -125,8 +125,42 @@ pub mod raw {
             out_length: usize,
             value: *mut u64,
         ) -> u32;
+        pub fn uramsheg_scene(
+            set: *const u8,
+            set_length: usize,
+            peak: f32,
+            sigma: f32,
+            ratio: f32,
+            low: f32,
+            high: f32,
+            rows: usize,
+            cols: usize,
+            octave: usize,
+            l0: *const f32,
+            l0_length: usize,
+            l1: *const f32,
+            l1_length: usize,
+            l2: *const f32,
+            l2_length: usize,
+            l3: *const f32,
+            l3_length: usize,
+            tile0: *mut f32,
+            tile0_length: usize,
+            tile1: *mut f32,
+            tile1_length: usize,
+            tile2: *mut f32,
+            tile2_length: usize,
+            tile3: *mut f32,
+            tile3_length: usize,
+            out: *mut u8,
+            out_length: usize,
+            value: *mut u64,
+        ) -> u32;
     }
 }
+
+/// The longest side of a map.
+pub(crate) const LONGEST: usize = 4096;
 
 /// What a spot must pass. A NaN is refused; infinities, and a window whose low is above its high, are allowed.
 #[derive(Clone, Copy, Debug, PartialEq)]
@@ -153,7 +187,7 @@ impl Thresholds {
     }
 }
 
-/// Four blurred levels of one map: each rows * cols floats by columns, pixel (row, col) at col * rows + row.
+/// Four blurred levels of one map, or of one scene: each rows * cols floats by columns, pixel (row, col) at col * rows + row.
 #[derive(Clone, Copy, Debug)]
 pub struct Map<'a> {
     pub rows: usize,

@@ -1,6 +1,6 @@
 //! A feed of columns: the map comes column by column, and its spots go out as soon as they are known.
 
-use crate::detector::{done, raw};
+use crate::detector::{LONGEST, done, raw};
 use crate::{Refusal, SPOT_BYTES, Spot, Thresholds};
 use std::ops::Range;
 
@@ -9,8 +9,6 @@ pub const FEED_BYTES: usize = 564;
 /// How many columns of each level a feed's ring holds.
 pub const RING_COLUMNS: usize = 5;
 
-/// The longest side.
-const LONGEST: usize = 4096;
 /// How many floats longer than five columns a slice of a `Feed`'s ring is: five columns of 4,096 rows are a whole number of a near cache's ways, so that the
 /// same rows of all levels would push each other out of it (docs/BENCHMARKS.md, the feed).
 const LONGER: usize = 1024;

@@ -1,5 +1,5 @@
-//! Uramsheg's detector for Rust. Every call ends, whatever it is given, and a refused call writes nothing; what each promises is proved
-//! (docs/PROMISES.md). The layouts of sets, spot records and sized records stand in include/uramsheg.h.
+//! Uramsheg's detector for Rust. Every call ends, whatever it is given, and a refused call writes nothing, but for a scene's that is `Refusal::Full`; what each
+//! promises is proved (docs/PROMISES.md). The layouts of sets and of records stand in include/uramsheg.h.
 
 #[cfg(feature = "detector")]
 mod detector;
@@ -9,6 +9,8 @@ mod feed;
 pub mod float;
 mod missing;
 mod refusal;
+#[cfg(feature = "detector")]
+mod scene;
 mod spot;
 
 #[cfg(feature = "detector")]
@@ -23,4 +25,9 @@ pub use detector::{
 pub use feed::{FEED_BYTES, Feed, RING_COLUMNS, Spots, feed_column, feed_start};
 pub use missing::Missing;
 pub use refusal::Refusal;
+#[cfg(feature = "detector")]
+pub use scene::{
+    SCENE_BYTES, SCENE_LONGEST, SceneSpot, TILE_LENGTH, TILE_STEP, scene, scene_spots, tile_count,
+    tile_pixels,
+};
 pub use spot::{SIZED_BYTES, SPOT_BYTES, SizedSpot, Spot};

@@ -4,10 +4,11 @@ use crate::Missing;
 use std::fmt;
 
 /// Why a call was refused. Of the call's checks, in its order, the first that holds is answered: detection checks 1, 2, 3, 8, 4; the join 1, 4, 5 for the
-/// list's length, 5 for a record, 6; correction 4, 7; halving a level 1, 2, 6; making levels 1, 2, 3, 4, 6; a feed's start 1, 3, 8, 4, 6; its column 9, 2, 6.
+/// list's length, 5 for a record, 6; correction 4, 7; halving a level 1, 2, 6; making levels 1, 2, 3, 4, 6; a feed's start 1, 3, 8, 4, 6; its column 9, 2, 6; a
+/// scene 10, 2, 3, 8, 4, 6 for a tile slice, 6 for the records of a tile.
 #[derive(Clone, Copy, Debug, PartialEq, Eq)]
 pub enum Refusal {
-    /// 1: rows or cols above 4,096.
+    /// 1: rows or cols above 4,096, but for a scene.
     Size,
     /// 2: a level, or the raw map, is not rows times cols long, or a feed's column not rows.
     Level,
@@ -17,14 +18,18 @@ pub enum Refusal {
     Set,
     /// 5: the list is not a whole number of records (the index is then their number), or the record at the index is bad.
     Records { index: usize },
-    /// 6: the output, or one of the four, or a feed's ring or state, is shorter than needed.
+    /// 6: the output, or one of the four, or a feed's ring or state, or a scene's tile slice, is shorter than needed.
     Room,
+    /// 6 too: the records of a scene's tile don't fit in the rest of the output. It begins with those of the tiles before it, this many.
+    Full { tiles: usize },
     /// 7: the spot has no size, and why.
     NoSize(Missing),
     /// 8: a threshold is not a number. `nan` tells which of peak, sigma, ratio, low and high are NaN.
     Thresholds { nan: [bool; 5] },
     /// 9: all of the feed's columns have come, or the state is none of a feed's.
     Past,
+    /// 10: rows or cols of a scene above 16,384.
+    Scene,
 }
 
 /// The thresholds' names, in their order.
@@ -32,7 +37,8 @@ const NAMES: [&str; 5] = ["peak", "sigma", "ratio", "low", "high"];
 
 impl Refusal {
     /// The refusal with a number and the value that goes with it, as the C functions answer them; None for a number, or a cause beside 7, that is none of
-    /// theirs. Which threshold is NaN they do not say: `detect` and a feed's start see it by those they were given.
+    /// theirs. Which threshold is NaN they do not say: the calls see it by those they were given. Nor do they say of 6 beside 0 whether it is `Room` or a
+    /// scene's first tile that does not fit: `scene` sees it by the tile slices.
     pub fn from_number(number: u32, value: usize) -> Option<Refusal> {
         Some(match number {
             1 => Refusal::Size,
@@ -40,10 +46,12 @@ impl Refusal {
             3 => Refusal::Octave,
             4 => Refusal::Set,
             5 => Refusal::Records { index: value },
+            6 if value > 0 => Refusal::Full { tiles: value },
             6 => Refusal::Room,
             7 => Refusal::NoSize(Missing::from_number(value)?),
             8 => Refusal::Thresholds { nan: [false; 5] },
             9 => Refusal::Past,
+            10 => Refusal::Scene,
             _ => return None,
         })
     }
@@ -55,10 +63,11 @@ impl Refusal {
             Refusal::Octave => 3,
             Refusal::Set => 4,
             Refusal::Records { .. } => 5,
-            Refusal::Room => 6,
+            Refusal::Room | Refusal::Full { .. } => 6,
             Refusal::NoSize(_) => 7,
             Refusal::Thresholds { .. } => 8,
             Refusal::Past => 9,
+            Refusal::Scene => 10,
         }
     }
 }
@@ -66,7 +75,10 @@ impl Refusal {
 impl fmt::Display for Refusal {
     fn fmt(&self, f: &mut fmt::Formatter<'_>) -> fmt::Result {
         match self {
-            Refusal::Size => write!(f, "rows or cols above 4096: cut the map into tiles"),
+            Refusal::Size => write!(
+                f,
+                "rows or cols above 4096: cut the map into tiles, as a scene does"
+            ),
             Refusal::Level => write!(
                 f,
                 "a level, or the raw map, is not rows * cols floats long, or a feed's column is not rows floats long"
@@ -83,7 +95,11 @@ impl fmt::Display for Refusal {
             ),
             Refusal::Room => write!(
                 f,
-                "the output, or a feed's ring or state, is too short: lend a longer one"
+                "the output, a feed's ring or state, or a scene's tile slice is too short: lend a longer one"
+            ),
+            Refusal::Full { tiles } => write!(
+                f,
+                "the output is full after {tiles} whole tiles of the scene: lend a longer one"
             ),
             Refusal::NoSize(why) => why.fmt(f),
             Refusal::Thresholds { nan } => {
@@ -99,6 +115,10 @@ impl fmt::Display for Refusal {
             Refusal::Past => write!(
                 f,
                 "all cols of the feed have come, or its state is none of a feed's: start another feed for the next map"
+            ),
+            Refusal::Scene => write!(
+                f,
+                "rows or cols of a scene above 16384: cut it into several"
             ),
         }
     }

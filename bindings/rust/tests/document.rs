@@ -420,13 +420,13 @@ fn sets_are_checked() {
 
 #[test]
 fn refusals_have_their_numbers_and_words() {
-    for number in 1..=9 {
+    for number in 1..=10 {
         let refusal = Refusal::from_number(number, 2).unwrap();
         assert_eq!(refusal.number(), number);
         assert!(!refusal.to_string().is_empty());
     }
     assert_eq!(Refusal::from_number(0, 0), None);
-    assert_eq!(Refusal::from_number(10, 0), None);
+    assert_eq!(Refusal::from_number(11, 0), None);
     for cause in [0, 3, 257, usize::MAX] {
         assert_eq!(Refusal::from_number(7, cause), None);
     }
@@ -451,12 +451,8 @@ fn causes_have_their_numbers_and_words() {
         assert_eq!(cause.to_string(), words);
         assert_eq!(Refusal::NoSize(cause).to_string(), words);
         // a spot without a size is told of in C as it is here
-        for source in [
-            include_str!("../../../examples/detect.c"),
-            include_str!("../../../examples/levels.c"),
-        ] {
-            assert!(source.contains(&format!("\"{words}\"")), "{words}");
-        }
+        let source = include_str!("../../../examples/spot.h");
+        assert!(source.contains(&format!("\"{words}\"")), "{words}");
     }
     for number in [0, 3, 257, usize::MAX] {
         assert_eq!(Missing::from_number(number), None);
