@@ -12,6 +12,7 @@ SIGNATURES = {
     "uramsheg_detect": [OCTETS, SIZE, *[FLOAT] * 5, SIZE, SIZE, SIZE, *[FLOATS, SIZE] * 4, OCTETS, SIZE, U64],
     "uramsheg_feed_start": [OCTETS, SIZE, *[FLOAT] * 5, SIZE, SIZE, SIZE, *[FLOATS, SIZE] * 4, OCTETS, SIZE],
     "uramsheg_feed_column": [OCTETS, SIZE, *[FLOATS, SIZE] * 8, OCTETS, SIZE, U64],
+    "uramsheg_scene": [OCTETS, SIZE, *[FLOAT] * 5, SIZE, SIZE, SIZE, *[FLOATS, SIZE] * 8, OCTETS, SIZE, U64],
     "uramsheg_join": [OCTETS, SIZE, SIZE, SIZE, OCTETS, SIZE, OCTETS, SIZE, U64],
     "uramsheg_correct": [OCTETS, SIZE, *[FLOAT] * 5, c.c_bool, FLOATS, U64],
     "uramsheg_octave_count": [SIZE, SIZE],
@@ -30,18 +31,31 @@ def octets(data):
 
 def by_columns(level):
     """A level's floats as a slice: pixel (row, col) at col * rows + row."""
-    rows, cols = level.shape
-    values = [float(level[row, col]) for col in range(cols) for row in range(rows)]
+    values = [value for column in level.T.tolist() for value in column]
     return (FLOAT * max(len(values), 1))(*values), len(values)
+
+
+def sevens(lengths):
+    """Floats to be lent, as many in each as is said, all 7."""
+    return [(FLOAT * max(length, 1))(*[7] * max(length, 1)) for length in lengths]
+
+
+def slices_of(lent, lengths):
+    """Lent floats as slices."""
+    return [part for floats, length in zip(lent, lengths) for part in (floats, length)]
+
+
+def bytes_of(lent, lengths):
+    """The bytes of lent floats."""
+    return [bytes(floats)[: 4 * length] for floats, length in zip(lent, lengths)]
 
 
 def levels(record, raw, octave, rooms, shape=None):
     """The number, and the floats of the four buffers, each of which has room for as many and holds 7 before the call."""
     rows, cols = shape or raw.shape
-    lent = [(FLOAT * max(room, 1))(*[7] * max(room, 1)) for room in rooms]
-    slices = [part for floats, room in zip(lent, rooms) for part in (floats, room)]
-    number = library.uramsheg_levels(*octets(record), rows, cols, octave, *by_columns(raw), *slices)
-    return number, [bytes(floats)[: 4 * room] for floats, room in zip(lent, rooms)]
+    lent = sevens(rooms)
+    number = library.uramsheg_levels(*octets(record), rows, cols, octave, *by_columns(raw), *slices_of(lent, rooms))
+    return number, bytes_of(lent, rooms)
 
 
 def detect(record, thresholds, levels, octave, room, shape=None):
@@ -59,13 +73,13 @@ class Feed:
 
     def __init__(self, record, thresholds, shape, octave, lengths, room=564):
         self.lengths, self.room = lengths, room
-        self.ring = [(FLOAT * max(length, 1))(*[7] * max(length, 1)) for length in lengths]
+        self.ring = sevens(lengths)
         self.state = (c.c_uint8 * max(room, 1))(*[0xA5] * max(room, 1))
         self.number = library.uramsheg_feed_start(*octets(record), *thresholds, *shape, octave, *self.slices(), self.state, room)
 
     def slices(self):
         """The ring's four slices."""
-        return [part for floats, length in zip(self.ring, self.lengths) for part in (floats, length)]
+        return slices_of(self.ring, self.lengths)
 
     def column(self, columns, room):
         """The number, the value and the bytes of `out`, which has room for as many records and holds 0xa5 before the call."""
@@ -76,7 +90,16 @@ class Feed:
 
     def held(self):
         """The bytes of the state and of the ring."""
-        return bytes(self.state)[: self.room], [bytes(floats)[: 4 * length] for floats, length in zip(self.ring, self.lengths)]
+        return bytes(self.state)[: self.room], bytes_of(self.ring, self.lengths)
+
+
+def scene(record, thresholds, levels, octave, lengths, room):
+    """The number, the value, the bytes of `out`, which has room for as many records and holds 0xa5 before the call, and those of the four tile slices, which
+    have as many floats as is said, all 7 before it."""
+    lent, out, value = sevens(lengths), (c.c_uint8 * max(56 * room, 1))(*[0xA5] * max(56 * room, 1)), c.c_uint64(77)
+    given = [part for level in levels for part in by_columns(level)]
+    number = library.uramsheg_scene(*octets(record), *thresholds, *levels[0].shape, octave, *given, *slices_of(lent, lengths), out, 56 * room, value)
+    return number, value.value, bytes(out)[: 56 * room], bytes_of(lent, lengths)
 
 
 def join(record, shape, listed, room):

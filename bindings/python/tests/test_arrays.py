@@ -38,7 +38,7 @@ def test_the_call_reads_the_array_itself():
 NOISES = [np.asfortranarray(np.random.default_rng(seed).normal(size=(1200, 1200)), dtype="f4") for seed in range(4)]
 
 
-@pytest.mark.parametrize("call, given", [(u.detect, (NOISES, u.standard(), (0.0,))), (u.levels, (np.tile(NOISES[0], (3, 3)), u.standard()))])
+@pytest.mark.parametrize("call, given", [(u.detect, (NOISES, u.standard(), (0.0,))), (u.scene, (NOISES, u.standard(), (0.0,))), (u.levels, (np.tile(NOISES[0], (3, 3)), u.standard()))])
 def test_other_threads_run_during_a_call(call, given):
     thread = threading.Thread(target=call, args=given)
     times = [time.monotonic()]

@@ -10,7 +10,7 @@ import pytest
 from matplotlib.image import imread
 
 import uramsheg as u
-from uramsheg import scene
+from uramsheg import large
 
 FOLDER = cface.ROOT / "bindings" / "python" / "examples"
 EXAMPLE = runpy.run_path(str(FOLDER / "plumes.py"))
@@ -88,7 +88,7 @@ def test_the_raw_map_s_levels_spots_and_sizes_are_those_that_c_and_rust_print():
     spots, limited = u.join(found, tables, raw.shape), u.join(found, tables.replace(curvature_epsilon=65, accepted_sigma_max=2.25), raw.shape)
     assert printed(raw, four, spots) == expected("raw.expected") and printed(raw, four, limited) == expected("causes.expected")
     *plumes, (x, y, *_) = runpy.run_path(str(RAW / "raw.py"))["PLUMES"]
-    assert len(spots) == len(plumes) and not scene.judged(four)[y, x]
+    assert len(spots) == len(plumes) and not large.judged(four)[y, x]
     for x, y, size, height in plumes:
         (near,) = spots[np.hypot(spots["x"] - x, spots["y"] - y) < 0.1]
-        assert abs(near["size"] / size - 1) < 0.02 and abs(-2 * near["peak"] / height - 1) < 0.05 and scene.judged(four)[y, x]
+        assert abs(near["size"] / size - 1) < 0.02 and abs(-2 * near["peak"] / height - 1) < 0.05 and large.judged(four)[y, x]

@@ -212,7 +212,7 @@ def test_a_start_of_the_c_face_on_short_room_writes_nothing(lengths, room):
 
 
 def test_a_start_names_what_is_refused():
-    for given, kind, said in [((T, (1.0,), 5000, 3), u.SizeRefused, "5000 by 3"), ((T, (1.0,), 3, 2**63), u.SizeRefused, "cut the map into tiles"),
+    for given, kind, said in [((T, (1.0,), 5000, 3), u.SizeRefused, "5000 by 3"), ((T, (1.0,), 3, 2**63), u.SizeRefused, "use scene"),
                               ((T, (1.0,), 9, 9, 6), u.OctaveRefused, "octave 6"), ((T, (1.0, 1.0, NAN, NAN), 9, 9), u.ThresholdsRefused, "(ratio, low)"),
                               ((T[:-1], (1.0,), 9, 9), u.SetRefused, "527 bytes")]:
         with pytest.raises(kind) as caught:

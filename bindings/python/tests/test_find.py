@@ -217,6 +217,18 @@ def test_a_map_wider_than_a_tile():
     assert spots["x"].tolist() == [pytest.approx(4092.2, abs=0.02), pytest.approx(4250.4, abs=0.02)] and spots["col"].tolist() == [4092, 4250]
 
 
+def test_a_map_wider_than_a_scene():
+    """Spots where tiles meet, and where scenes of longer maps do: each once."""
+    wide = (4092.2, 8180.3, 16355.8, 16356.2, 16480.4)
+    raw = np.zeros((40, 16500))
+    for x, y in zip(wide, (20.3, 21.2, 10.2, 30.3, 19.7)):
+        left = int(x) - 20
+        raw[:, left : left + 40] += blob.spots((40, 40), (x - left, y, 2.5, 100))
+    spots = u.find(raw, peak=10).spots
+    assert np.sort(spots["x"]).tolist() == [pytest.approx(x, abs=0.1) for x in wide]
+    assert sorted(spots["col"]) == [4092, 8180, 16356, 16356, 16480] and sorted(spots["key"] % 2**32) == sorted(spots["col"])
+
+
 def test_a_noise_next_to_none():
     """A signal to noise beyond float64 is infinite, as it is without noise."""
     spots = u.find(blob.spots((70, 81), SPOT), peak=10).spots

@@ -10,7 +10,7 @@ import pytest
 from hypothesis import given, strategies as st
 
 import uramsheg as u
-from uramsheg import make, scene
+from uramsheg import large, make
 
 TABLES = u.standard()
 T = cface.case("list")[0]
@@ -139,7 +139,7 @@ def test_a_lost_raw_pixel_strikes_exactly_the_spots_that_it_reaches(octave):
     assert u.detect(four, TABLES, (0.01,), octave).tobytes() == full[~gone].tobytes() and 5 < gone.sum() < len(full) - 5
     inner = np.zeros_like(due)
     inner[4:-4, 4:-4] = True
-    assert np.array_equal(scene.judged(four), inner & ~due)
+    assert np.array_equal(large.judged(four), inner & ~due)
 
 
 def test_a_gaussian_is_blurred_to_the_sigmas():
@@ -171,7 +171,7 @@ def test_tile_by_tile_as_whole(shape, side):
     if raw.size:
         raw[shape[0] // 2, shape[1] // 3] = np.nan
     for octave, tables in ((0, TABLES), (1, TABLES), (0, TABLES.replace(sigmas=(1, 5, 6, 1e20)))):
-        four = scene.levels(raw, tables, octave, side=side)
+        four = large.levels(raw, tables, octave, side=side)
         assert same(four, u.levels(raw, tables, octave)) and all(level.flags.f_contiguous for level in four)
 
 
@@ -179,4 +179,4 @@ def test_a_map_wider_than_a_tile():
     raw = np.random.default_rng(7).normal(size=(20, 4300))
     with pytest.raises(u.SizeRefused):
         u.levels(raw, TABLES)
-    assert same(scene.levels(raw, TABLES), plain.levels(raw, TABLES.sigmas, 0))
+    assert same(large.levels(raw, TABLES), plain.levels(raw, TABLES.sigmas, 0))

@@ -7,13 +7,13 @@ import pytest
 
 import uramsheg as u
 from uramsheg._native import lib
-from uramsheg.records import FEED
+from uramsheg.records import FEED, TILED
 
 HEADER = (cface.ROOT / "include" / "uramsheg.h").read_text()
 
 
 @pytest.mark.parametrize("kind, width", [(u.SET, lib.URAMSHEG_SET_BYTES), (u.SPOT, lib.URAMSHEG_SPOT_BYTES), (u.SIZED, lib.URAMSHEG_SIZED_BYTES),
-                                         (FEED, lib.URAMSHEG_FEED_BYTES)])
+                                         (TILED, lib.URAMSHEG_SCENE_BYTES), (FEED, lib.URAMSHEG_FEED_BYTES), (u.SCENE, 80)])
 def test_every_byte_has_a_name(kind, width):
     assert kind.itemsize == width == sum(kind[name].itemsize for name in kind.names)
     assert [kind.fields[name][1] for name in kind.names] == [sum(kind[before].itemsize for before in kind.names[:place]) for place in range(len(kind.names))]
@@ -26,6 +26,13 @@ def test_the_places_are_the_header_s():
             "spare": r"(\d+) zero\n", "size": r"(\d+) corrected sigma f32", "row": r"(\d+) home row u16", "col": r"(\d+) home col u16",
             "accepted": r"(\d+) accepted", "cause": r"(\d+) cause", "spare_sized": r"(\d+) 51 zero"}
     assert {name: int(re.search(pattern, HEADER)[1]) for name, pattern in said.items()} == places
+
+
+def test_the_places_of_a_scene_s_record_are_the_header_s():
+    row, col, sized = map(int, re.search(r"(\d+) tile row u16, (\d+) tile col u16.*?(\d+) the sized record", HEADER, re.S).groups())
+    due = {"tile_row": row, "tile_col": col, **{name: sized + u.SIZED.fields[name][1] for name in u.SIZED.names}}
+    for kind in (TILED, u.SCENE):
+        assert {name: kind.fields[name][1] for name in due} == due and all(kind[name] == TILED[name] for name in due)
 
 
 def test_the_places_of_a_state_are_the_header_s():

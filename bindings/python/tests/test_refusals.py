@@ -31,7 +31,7 @@ def refused(kind, call, *given, **named):
 
 def test_each_number_of_the_header_has_a_class():
     named = {getattr(lib, name) for name in dir(lib) if name.startswith("URAMSHEG_REFUSED_")}
-    assert named == set(refusals.REFUSALS) == set(range(1, 10))
+    assert named == set(refusals.REFUSALS) == set(range(1, 11))
     for kind in refusals.REFUSALS.values():
         assert issubclass(kind, u.Refused) and issubclass(kind, ValueError) and kind.why and getattr(u, kind.__name__) is kind
 
@@ -40,7 +40,7 @@ def test_1_size(m):
     for shape in ((4097, 3), (3, 4097)):
         wide = np.zeros(shape, "f4", order="F")
         assert "4097" in str(refused(u.SizeRefused, u.detect, [wide] * 4, b"", GIVEN, 6))
-        assert "cut the map into tiles" in str(refused(u.SizeRefused, u.levels, wide, b"", 6, out=EMPTY))
+        assert "use scene" in str(refused(u.SizeRefused, u.levels, wide, b"", 6, out=EMPTY))
         refused(u.SizeRefused, u.downsample, wide)
         refused(u.SizeRefused, u.join, b"1", b"", shape)
     assert len(u.detect([np.zeros((4096, 3), "f4")] * 4, m.set, GIVEN)) == 0
@@ -191,8 +191,18 @@ def test_thresholds_that_are_no_numbers_are_the_c_face_s_matter(given):
         assert number == error.number and error.names == tuple(name for name, one in zip(u.Thresholds._fields, given) if one != one)
 
 
+def test_10_scene(m):
+    for shape in ((16385, 1), (1, 16385), (0, 16385), (16385, 0)):
+        levels = [np.zeros(shape, "f4"), *m.levels()[1:]]
+        error = refused(u.SceneRefused, u.scene, levels, b"", (NAN,) * 5, 6)
+        assert error.detail.split(", ") == [f"{shape[0]} by {shape[1]}"] + ["9 by 10"] * 3 and error.index is None
+        assert refused(u.SceneRefused, u.tiles, *shape).detail == f"{shape[0]} by {shape[1]}"
+    assert "above 16384: cut it into scenes that share 8 pixels (16385 by 0)" in str(refused(u.SceneRefused, u.tiles, 16385, 0))
+    refused(u.SceneRefused, u.tiles, 2**64 - 1, 9)
+
+
 @pytest.mark.parametrize("error", [u.SizeRefused("5000 by 3"), u.RecordsRefused("record 3", 3), u.ThresholdsRefused(["peak", "low"]), u.NoSizeRefused(1),
-                                   u.NoSizeRefused(2), u.PastRefused("90 of 90")])
+                                   u.NoSizeRefused(2), u.PastRefused("90 of 90"), u.SceneRefused("16385 by 3")])
 def test_a_refusal_travels_between_processes(error):
     for again in (pickle.loads(pickle.dumps(error)), copy.copy(error)):
         assert (type(again), str(again), vars(again), again.args) == (type(error), str(error), vars(error), error.args)

@@ -5,7 +5,7 @@ from .filling import fill
 from .finding import FOUND, Found, Judged, find
 from .grid import Grid
 from .missing import NO_SIZE
-from .records import SET, SIZED, SPOT
+from .records import SCENE, SET, SIZED, SPOT
 from .refusals import (
     LevelRefused,
     NoSizeRefused,
@@ -14,10 +14,12 @@ from .refusals import (
     RecordsRefused,
     Refused,
     RoomRefused,
+    SceneRefused,
     SetRefused,
     SizeRefused,
     ThresholdsRefused,
 )
+from .scenes import Tile, scene, tiles
 from .tables import Tables, TablesFault, standard
 
 #: the join by what it is for: each spot's size
@@ -26,6 +28,6 @@ size = join
 __version__ = "0.1.0"
 __all__ = [
     "FOUND", "Feed", "Found", "Grid", "Judged", "LevelRefused", "NO_SIZE", "NoSizeRefused", "OctaveRefused", "PastRefused", "RecordsRefused", "Refused",
-    "RoomRefused", "SET", "SIZED", "SPOT", "SetRefused", "SizeRefused", "Tables", "TablesFault", "Thresholds", "ThresholdsRefused", "correct", "detect",
-    "downsample", "fill", "find", "join", "levels", "octave_count", "read_set", "size", "standard",
+    "RoomRefused", "SCENE", "SET", "SIZED", "SPOT", "SceneRefused", "SetRefused", "SizeRefused", "Tables", "TablesFault", "Thresholds", "ThresholdsRefused",
+    "Tile", "correct", "detect", "downsample", "fill", "find", "join", "levels", "octave_count", "read_set", "scene", "size", "standard", "tiles",
 ]

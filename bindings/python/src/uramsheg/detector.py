@@ -6,7 +6,7 @@ import numpy as np
 from . import arrays
 from ._native import ffi, lib
 from .records import SIZED, SPOT
-from .refusals import LevelRefused, NoSizeRefused, OctaveRefused, RecordsRefused, RoomRefused, SetRefused, SizeRefused, ThresholdsRefused, kind_of
+from .refusals import LevelRefused, NoSizeRefused, OctaveRefused, RecordsRefused, RoomRefused, SceneRefused, SetRefused, SizeRefused, ThresholdsRefused, kind_of
 from .tables import Tables, faults, record_of
 
 
@@ -50,6 +50,35 @@ def lent_levels(array, out):
     return out
 
 
+class Asked(NamedTuple):
+    """What a detection is asked: a set's record, thresholds, an octave and four levels."""
+
+    record: bytes
+    thresholds: Thresholds
+    octave: int
+    levels: list
+
+    def words(self):
+        """The arguments that a call begins with."""
+        shape = self.levels[0].shape
+        slices = [part for array in self.levels for part in slice_of(array, shape)]
+        return [self.record, len(self.record), *self.thresholds, *shape, self.octave, *slices]
+
+    def refusal(self, number):
+        """The exception of a refused call."""
+        return refusal(number, record=self.record, shapes=[array.shape for array in self.levels], thresholds=self.thresholds, octave=self.octave)
+
+
+def asked_of(levels, tables, thresholds, octave):
+    """What a detection is asked, of the arguments that it is given."""
+    record = record_of(tables)
+    given = Thresholds(*map(float, thresholds))
+    four = [arrays.level(values) for values in levels]
+    if len(four) != 4:
+        raise TypeError(f"detection takes four levels, not {len(four)}")
+    return Asked(record, given, arrays.count("octave", octave), four)
+
+
 def detect(levels, tables, thresholds, octave=0, *, room=1024):
     """The spots of four blurred levels, an array of SPOT by rising key.
 
@@ -57,20 +86,13 @@ def detect(levels, tables, thresholds, octave=0, *, room=1024):
     each other one is copied: another type is rounded to float32, a masked pixel is NaN. `room` is the number of spots that the first try has room
     for; where there are more, a second try has room for all.
     """
-    record = record_of(tables)
-    given = Thresholds(*map(float, thresholds))
-    four = [arrays.level(values) for values in levels]
-    if len(four) != 4:
-        raise TypeError(f"detection takes four levels, not {len(four)}")
-    rows, cols = four[0].shape
-    octave = arrays.count("octave", octave)
-    slices = [part for array in four for part in slice_of(array, (rows, cols))]
-    value = ffi.new("uint64_t *")
+    asked = asked_of(levels, tables, thresholds, octave)
+    given, value = asked.words(), ffi.new("uint64_t *")
     while True:
         out = np.zeros(arrays.count("room", room), SPOT)
-        number = lib.uramsheg_detect(record, len(record), *given, rows, cols, octave, *slices, *arrays.octets_to_write(out), value)
+        number = lib.uramsheg_detect(*given, *arrays.octets_to_write(out), value)
         if number:
-            raise refusal(number, record=record, shapes=[array.shape for array in four], thresholds=given, octave=octave)
+            raise asked.refusal(number)
         if value[0] <= len(out):
             return out[:value[0]].copy()
         room = value[0]
@@ -170,7 +192,7 @@ def refusal(number, value=0, *, record=b"", shapes=(), thresholds=(), octave=0, 
         return kind("; ".join(faults(record)))
     if kind is OctaveRefused:
         return kind(f"octave {octave}")
-    if kind in (SizeRefused, LevelRefused):
+    if kind in (SizeRefused, LevelRefused, SceneRefused):
         return kind(", ".join(f"{rows} by {cols}" for rows, cols in shapes))
     if kind is RoomRefused and rooms:
         (rows, cols), = shapes

@@ -3,7 +3,7 @@ from typing import NamedTuple
 
 import numpy as np
 
-from . import doubles, maps, scene
+from . import doubles, large, maps
 from .detector import Thresholds, octave_count, read_set
 from .grid import Grid
 from .tables import standard
@@ -79,8 +79,8 @@ def find(values, tables=None, *, peak=None, snr=None, thresholds=None, ground="m
     for octave, four in pyramid(np.asfortranarray(base / unit, dtype=np.float32), tables, octaves):
         low, high = rest.low * 2**octave, rest.high * 2**octave
         beyond = peak / unit if peak is not None else least * response_noise(noise / unit, high) * (1 - 1e-6)
-        parts.append(rows_of(*scene.listed(four, tables, rest._replace(peak=beyond), octave), octave, unit))
-        judged.append(Judged(octave, low, high, scene.judged(four)))
+        parts.append(rows_of(large.listed(four, tables, rest._replace(peak=beyond), octave), octave, unit))
+        judged.append(Judged(octave, low, high, large.judged(four)))
         if watch is not None:
             watch()
     spots = np.concatenate(parts)
@@ -146,20 +146,19 @@ def pyramid(base, tables, octaves):
     count = octave_count(*base.shape)
     asked = range(count) if octaves is None else [octave for octave in range(count) if octave in octaves]
     for octave in range(max(asked, default=-1) + 1):
-        four = scene.levels(base, tables, octave)
+        four = large.levels(base, tables, octave)
         if octave in asked:
             yield octave, four
-        base = scene.halved(four[2])
+        base = large.halved(four[2])
 
 
-def rows_of(records, corners, pixels, octave, unit):
-    """Rows of the table, in the map's pixels and unit, of the records that one octave lists."""
+def rows_of(records, octave, unit):
+    """Rows of the table, in the map's pixels and unit, of the records of SCENE that one octave lists."""
     spots = np.zeros(len(records), FOUND)
     step = 2**octave
-    top, left = corners.T
-    spots["x"], spots["y"] = (records["x"] + left.astype(float)) * step, (records["y"] + top.astype(float)) * step
+    spots["x"], spots["y"] = records["scene_x"] * step, records["scene_y"] * step
     spots["row"], spots["col"] = np.floor(spots["y"] + 0.5), np.floor(spots["x"] + 0.5)
-    spots["key"] = pixels @ np.array([2**32, 1]) * step
+    spots["key"] = (records["scene_row"].astype(np.int64) * 2**32 + records["scene_col"]) * step
     spots["sigma"] = records["sigma"].astype(float) * step
     spots["size"] = np.where(records["accepted"], records["size"].astype(float) * step, np.nan)
     spots["cause"] = records["cause"]

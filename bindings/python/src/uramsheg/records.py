@@ -25,12 +25,18 @@ SPOT = np.dtype([
 #: `col` nearest to y and x, a half to the larger
 SIZED = np.dtype(SPOT.descr + [("size", "<f4"), ("row", "<u2"), ("col", "<u2"), ("accepted", "?"), ("cause", "u1"), ("spare_sized", "u1", (2,))])
 
+#: a spot of a scene as the call writes it: the numbers of its tile, and its sized record there
+TILED = np.dtype([("tile_row", "<u2"), ("tile_col", "<u2"), *SIZED.descr])
+
+#: the same with its place in the scene: x and y, and the row and col of the pixel that it was found at
+SCENE = np.dtype(TILED.descr + [("scene_x", "<f8"), ("scene_y", "<f8"), ("scene_row", "<i4"), ("scene_col", "<i4")])
+
 #: the state of a feed: how it was started, and `position`, the number of columns that it has taken
 FEED = np.dtype([
     ("set", SET), ("thresholds", "<f4", (5,)), ("rows", "<u4"), ("cols", "<u4"), ("position", "<u4"), ("octave", "u1"), ("spare", "u1", (3,)),
 ])
 
 for kind, width in ((SET, lib.URAMSHEG_SET_BYTES), (SPOT, lib.URAMSHEG_SPOT_BYTES), (SIZED, lib.URAMSHEG_SIZED_BYTES),
-                    (FEED, lib.URAMSHEG_FEED_BYTES)):
+                    (TILED, lib.URAMSHEG_SCENE_BYTES), (FEED, lib.URAMSHEG_FEED_BYTES)):
     if kind.itemsize != width:
         raise ImportError(f"a record of {kind.itemsize} bytes has {width} in uramsheg.h: build the package and its archive from one")

@@ -22,7 +22,7 @@ class SizeRefused(Refused):
     """Rows or cols above 4096."""
 
     number = lib.URAMSHEG_REFUSED_SIZE
-    why = "rows or cols above 4096: cut the map into tiles"
+    why = "rows or cols above 4096: use scene, which takes the levels of larger maps"
 
 
 class LevelRefused(Refused):
@@ -92,6 +92,13 @@ class PastRefused(Refused):
 
     number = lib.URAMSHEG_REFUSED_PAST
     why = "all columns of the feed have come: start another feed for the next map"
+
+
+class SceneRefused(Refused):
+    """Rows or cols of a scene above 16384."""
+
+    number = lib.URAMSHEG_REFUSED_SCENE
+    why = "rows or cols of a scene above 16384: cut it into scenes that share 8 pixels"
 
 
 #: the classes by their numbers

@@ -1,32 +1,24 @@
-"""Maps of any side: levels, detection and the join tile by tile, a level halved, and which pixels were judged. Nothing here is proved but what each tile's
-calls answer: it stands in for a proved function, and all that uses it calls these four alone.
+"""Maps of any side: their levels, part by part; their spots, scene by scene; a level halved; and which pixels were judged. Proved is what each call answers, a
+scene's tiles among it; that the parts make up the whole map is tested.
 
-Tiles start at every 4,088th pixel and are 4,096 long, or to the end: the four pixels at a tile's side that are not judged are judged in its neighbour. A
-tile of levels is made of 16 pixels more on each side that is cut: no kernel reaches further, so that its pixels are those of the whole map.
+A part of levels is made of 16 pixels more on each side that is cut: no kernel reaches further, so that its pixels are those of the whole map. Where a side is
+longer than a scene's, scenes share 8 pixels, as a scene's own tiles do: the four at a side that are not judged are judged in the neighbour.
 """
 import numpy as np
 
 from . import detector
-from .detector import detect, downsample, join
-from .records import SIZED
+from .detector import downsample
+from .scenes import LENGTH, STEP, along, scene
 
-SIDE = 4096
 #: how many pixels at a map's side are not judged
 MARGIN = 4
 #: the largest radius of a kernel
 REACH = 16
+#: how long a scene is that is cut off a longer side: four whole tiles
+SCENE_LENGTH = 3 * STEP + LENGTH
 
 
-def tiles(length, side):
-    """Where the tiles of a side begin and end; a side of 0 has one."""
-    start = 0
-    while start + side < length:
-        yield start, start + side
-        start += side - 2 * MARGIN
-    yield start, length
-
-
-def levels(raw, tables, octave=0, *, side=SIDE):
+def levels(raw, tables, octave=0, *, side=LENGTH):
     """The four levels of a raw map of any sides."""
     rows, cols = np.shape(raw)
     if max(rows, cols) <= side:
@@ -42,24 +34,19 @@ def levels(raw, tables, octave=0, *, side=SIDE):
     return four
 
 
-def listed(levels, tables, thresholds, octave=0, *, side=SIDE):
-    """The sized records of a scene, and for each the row and the col at which its tile begins, and those of the pixel that it was found at.
-
-    x, y, key, row and col of a record are the tile's own; the pixel, which its key names, is the scene's.
-    """
+def listed(levels, tables, thresholds, octave=0, *, side=SCENE_LENGTH):
+    """The spots of levels of any sides, an array of SCENE whose places are the whole map's; a tile's numbers are those in its scene."""
     rows, cols = np.shape(levels[0])
-    records, corners, pixels = [np.zeros(0, SIZED)], [np.zeros((0, 2), int)], [np.zeros((0, 2), int)]
-    for top, bottom in tiles(rows, side):
-        for left, right in tiles(cols, side):
-            parts = [level[top:bottom, left:right] for level in levels]
-            found = join(detect(parts, tables, thresholds, octave), tables, parts[0].shape)
-            records.append(found)
-            corners.append(np.full((len(found), 2), (top, left)))
-            pixels.append(corners[-1] + np.stack(np.divmod(found["key"].astype(int), max(right - left, 1)), axis=1))
-    return tuple(np.concatenate(parts) for parts in (records, corners, pixels))
+    parts = []
+    for top, bottom in along(rows, side):
+        for left, right in along(cols, side):
+            parts.append(scene([level[top:bottom, left:right] for level in levels], tables, thresholds, octave))
+            for name, start in (("scene_x", left), ("scene_y", top), ("scene_row", top), ("scene_col", left)):
+                parts[-1][name] += start
+    return np.concatenate(parts)
 
 
-def halved(level, *, side=SIDE):
+def halved(level, *, side=LENGTH):
     """Every second pixel of every second column, as `downsample` gives it, of a level of any sides."""
     rows, cols = np.shape(level)
     out = np.zeros((rows // 2, cols // 2) if min(rows, cols) > 1 else (0, 0), np.float32, order="F")
