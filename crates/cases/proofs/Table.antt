@@ -12,7 +12,7 @@ use Rattle.whole.specs.Nearest.{saturated, nearestTo, nearestOf}
 use Rattle.tables.specs.Set.{every, rising, allSet, good, blank}
 use Rattle.tables.specs.Refusal as refusals
 use Rattle.tables.specs.SetT.{values, sigmasT, cubicT, row, blockT, numbersT, setT}
-use Rattle.words.specs.Words.{wordBytes, floatBytes, wordFrom, floatFrom}
+use Rattle.words.specs.Words.{wordBytes, halfBytes, floatBytes, wordFrom, floatFrom}
 use Rattle.record.specs.Layout.{floats4, recordBytes, recordFrom, bytesOf, laid}
 use Rattle.record.specs.Readable as readable
 use Rattle.fit.specs.Cubic.{rowOf, coeffsOf, hornerOf, discriminantOf, curvatureOf}
@@ -24,7 +24,7 @@ use Rattle.profile.specs.Four.{squaresOf, lessOf, overOf, rootsOf, productsOf, 
 use Rattle.profile.specs.Profile as profile
 use Rattle.profile.specs.Causes as causes
 use Rattle.size.specs.Correct.{geometryOf, noBlend, blendOf, betaOf, blendBetaBy, boundedOf, weightOf, signedRoot, modelOf, proposalOf, modelMoveOf, derivativeOf, rightPolarity, placeOf, sigmaAt, accepted, gainOf, gained, flatter, better, chosenOf, trusted, inRange, movedOf, correctedBy, answerOf, correctBy}
-use Rattle.join.specs.Sized.{givenSigma, acceptedOf, missingOf, sizeOf, homeOf, halfBytes, tailBytes, sizedBytes}
+use Rattle.join.specs.Sized.{givenSigma, acceptedOf, missingOf, sizeOf, homeOf, tailBytes, sizedBytes}
 use Rattle.pyramid.specs.Pyramid.{octavesOf, octaveCountOf}
 use Rattle.pixel.specs.Gate.{sigmaOf, peakOf, strongOf, curvedOf, gateBy}
 use Rattle.pixel.specs.Ring.{allOf, beatsBy, ringBy}
@@ -44,7 +44,7 @@ use Rattle.cases.specs.Case.{Case, rootCase, logCase, nearestCase, value
 use Rattle.cases.specs.MapM.{zeros, put, levelM, thresholdsOf, thresholdsM, mapM, bytesM, minimumM, smallM, mapCase, sizedCase, ofChecked, checksCase}
 use Rattle.cases.specs.Feeds.{startCase, columnM, columnsM, callsM, ringOf, stateM, fedCase, ofAnswer, columnCase}
 use Rattle.tiles.specs.Tiles.{tilesOf, lengthOf}
-use Rattle.scene.specs.Scene.{sceneChecks}
+use Rattle.scene_checks.specs.Checks.{sceneChecks}
 use Rattle.cases.specs.Scenes.{tilesCase, sceneCase, homeCase}
 use Rattle.cases.specs.Raw.{radiusCase, radiiCase, tapCase, patterns, levelCase, whole, wholeCase, rawCase}
 use Rattle.cases.specs.Table.{table}

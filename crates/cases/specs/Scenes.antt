@@ -11,7 +11,8 @@ use Rattle.tables.specs.declared.Thresholds.{Thresholds}
 use Rattle.tables.specs.Refusal.{firstOf}
 use Rattle.tables.specs.SetT.{setT}
 use Rattle.tiles.specs.Tiles.{tileStep, tilesOf, lengthOf}
-use Rattle.scene.specs.Scene.{sceneChecks, After, sceneOf}
+use Rattle.scene_checks.specs.Checks.{sceneChecks}
+use Rattle.scene.specs.Scene.{After, sceneOf}
 use Rattle.face_scene.specs.Face.{leftBy}
 use Rattle.cases.specs.Case.{Case}
 use Rattle.cases.specs.MapM.{zeros, put, bytesM, thresholdsM, ofChecked}

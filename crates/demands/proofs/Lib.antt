@@ -11,5 +11,3 @@ pub mod Clear
 pub mod TwoMaps
 pub mod Answers
 pub mod Joined
-pub mod Stays
-pub mod Form

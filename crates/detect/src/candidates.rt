@@ -37,7 +37,7 @@ fn judged<'a>(
 {
     let sigmas = set.sigmas;
     let nine = nine_at(l0, l1, l2, l3, f, sigmas, row, col);
-    pixel::listed::lay_listing(set, th, f, &nine, row, col, out, n)
+    listing::lay_listing(set, th, f, &nine, row, col, out, n)
 }
 
 // What a pixel lists, told whether it is marked. Most pixels are not.

@@ -21,7 +21,7 @@ use Rattle.tables.specs.declared.Checked.{Checked}
 use Rattle.tables.specs.declared.Checked.the-variants.{Fine, Bad}
 use Rattle.tables.proofs.SetLaws.{every-or-default}
 use Rattle.record.specs.declared.Record.{Record}
-use Rattle.words.specs.Words.{floatBytes}
+use Rattle.words.specs.Words.{halfBytes, floatBytes}
 use Rattle.words.proofs.WordsLaws.{length-floatBytes}
 use Rattle.whole.specs.Nearest.{nearestOf}
 use Rattle.record.specs.Layout.{spotWidth, recordBytes, recordAt}
@@ -33,7 +33,7 @@ use Rattle.size.specs.declared.Corrected.{Corrected}
 use Rattle.size.specs.declared.Corrected.the-variants.{Sigma, NoSize}
 use Rattle.size.specs.declared.Correction.the-variants.{Size, Refused}
 use Rattle.size.proofs.CorrectLaws.{size-is-corrected, cause-is-corrects}
-use Rattle.join.specs.Sized.{sizedWidth, givenSigma, acceptedOf, missingOf, samplesIn, sizeOf, homeOf, halfBytes, tailBytes, sizedBytes}
+use Rattle.join.specs.Sized.{sizedWidth, givenSigma, acceptedOf, missingOf, samplesIn, sizeOf, homeOf, tailBytes, sizedBytes}
 use Rattle.join.specs.Join.{recordsFrom, sizedAll, joinChecks, laidSized, joined, joinOf}
 use Rattle.join.specs.declared.Joined.the-variants.{Count}
 use Rattle.join.proofs.CheckLaws.{Passed, checks-passed}

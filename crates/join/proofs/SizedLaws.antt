@@ -4,26 +4,22 @@ use native.Mathlib.Nat.{add-assoc}
 use native.Mathlib.Omega.{arith}
 use mathlib.Core.List.{List, [], _∷_, _++_}
 use mathlib.Core.Path.{_≡_, refl, ap, _∙_}
-use lib.ListN.{length, set, drop, length-append}
+use lib.ListN.{length, drop, length-append}
 use lib.Seq.{sets, sets-eq}
 use lib.Ieee.{Float}
 use Rattle.tables.specs.declared.Set.{Set}
 use Rattle.record.specs.declared.Record.{Record}
-use Rattle.words.specs.Words.{floatBytes}
+use Rattle.words.specs.Words.{halfBytes, floatBytes}
 use Rattle.record.specs.Layout.{spotWidth, recordBytes, recordAt}
 use Rattle.words.proofs.Stores.{sets-append}
-use Rattle.words.proofs.WordsLaws.{length-floatBytes}
+use Rattle.words.proofs.WordsLaws.{length-halfBytes, length-floatBytes}
 use Rattle.record.proofs.LayoutLaws.{length-recordBytes}
 use Rattle.size.specs.declared.Corrected.{Corrected}
 use Rattle.join.specs.declared.Home.{Home}
-use Rattle.join.specs.Sized.{sizedWidth, givenSigma, acceptedOf, missingOf, sizeOf, homeOf, halfBytes, tailBytes, sizedBytes}
+use Rattle.join.specs.Sized.{sizedWidth, givenSigma, acceptedOf, missingOf, sizeOf, homeOf, tailBytes, sizedBytes}
 use Rattle.join.specs.Join.{recordsFrom, recordsOf, sizedAll, laidSized}
 
 -- ---- lengths
-
-length-halfBytes : (v : ℕ) → length (halfBytes v) ≡ 2
-unfolding halfBytes
-length-halfBytes v = refl
 
 length-tailBytes : (size : Corrected) (home : Home) → length (tailBytes size home) ≡ 12
 unfolding tailBytes halfBytes
@@ -49,9 +45,6 @@ pub length-all : (s : Set) (b : List ℕ) → length (sizedAll s (recordsOf b)) 
 length-all s b = length-sizedAll s (recordsOf b) ∙ ap (λ (n : ℕ). n * sizedWidth) (length-recordsFrom b (length b / spotWidth) 0)
 
 -- ---- stores
-
-pub two-stores : (l : List ℕ) (i a b : ℕ) → set (set l i a) (i + 1) b ≡ sets l i (a ∷ b ∷ [])
-two-stores l i a b = let e : i + 1 ≡ suc i = omega arith in rw e
 
 -- the four parts of a tail, stored one after the other
 pub tail-parts : {b c d e : List ℕ} {sigma : Float} {accepted missing : ℕ} (a : List ℕ) (at : ℕ) (size : Corrected) (home : Home)

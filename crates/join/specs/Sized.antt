@@ -1,5 +1,5 @@
 -- A sized record: the spot's record, its size and its home pixel, as a function of the record and the set alone. Definitions only.
-use Prim.Native.Nat.{ℕ, _/_, _%_}
+use Prim.Native.Nat.{ℕ}
 use mathlib.Core.List.{List, [], _∷_, _++_}
 use lib.Dec.{eqb}
 use lib.Ieee.{Float}
@@ -7,7 +7,7 @@ use Rattle.float.specs.Num.{f0}
 use Rattle.tables.specs.declared.Set.{Set}
 use Rattle.tables.specs.Refusal.{causeOf}
 use Rattle.record.specs.declared.Record.{Record}
-use Rattle.words.specs.Words.{floatBytes}
+use Rattle.words.specs.Words.{halfBytes, floatBytes}
 use Rattle.record.specs.Layout.{recordBytes}
 use Rattle.whole.specs.Nearest.{nearestOf}
 use Rattle.size.specs.Correct.{correctedOf}
@@ -45,10 +45,6 @@ sizeOf s r = correctedOf s (samplesIn r) (r .sigma) (eqb (r .polarity) 1)
 -- the home pixel is the one nearest to the record's own y and x, a half going to the larger number
 unfoldable pub homeOf : Record → Home
 homeOf r = record { row = nearestOf (r .y); col = nearestOf (r .x) }
-
--- a u16's two bytes, the lower first
-unfoldable pub halfBytes : ℕ → List ℕ
-halfBytes v = v % 256 ∷ v / 256 ∷ []
 
 -- what follows the record: corrected sigma f32, home row u16, home col u16, accepted 1 or 0, why the size is missing, two zero bytes
 unfoldable pub tailBytes : Corrected → Home → List ℕ

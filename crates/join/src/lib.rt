@@ -1,6 +1,6 @@
 // The join: each spot's record with its size and its home pixel. A size comes from the four samples, the sigma and the polarity in the spot's own record.
 mod check; // check.rt: the refusals
-pub mod sized; // sized.rt: sized records
+mod sized; // sized.rt: sized records
 
 ghost use mathlib.Core.Path.{_≡_};
 ghost use Rattle.join.specs.Join.{outcome, joinOf};

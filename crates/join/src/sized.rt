@@ -1,11 +1,10 @@
 // Sized records: what follows the spot's record in each, and all of a list's.
 ghost use mathlib.Core.Path.{_≡_};
-ghost use mathlib.Core.List.{[], _∷_};
 ghost use Prim.Native.Nat.{_+_, _*_, _/_, _<_, _≤_, _^_};
 ghost use lib.ListN.{length};
 ghost use lib.Seq.{sets};
 ghost use Rattle.record.specs.Layout.{spotWidth};
-ghost use Rattle.join.specs.Sized.{sizedWidth, givenSigma, acceptedOf, missingOf, halfBytes, tailBytes, homeOf, sizeOf, sizedBytes};
+ghost use Rattle.join.specs.Sized.{sizedWidth, givenSigma, acceptedOf, missingOf, tailBytes, homeOf, sizeOf, sizedBytes};
 ghost use Rattle.join.specs.Join.{recordsFrom, sizedAll, Placed, Writable};
 use crate::Home;
 use crate::SIZED_WIDTH;
@@ -68,16 +67,6 @@ fn home_of(r: Record) -> Home
     }
 }
 
-// A u16's two bytes from the byte at on, the lower first.
-pub fn put_half(out: &mut [u8], at: usize, v: usize)
-    requires { ⌜ at + 2 ≤ length (now out) ⌝ }
-    requires { ⌜ v < 2 ^ 16 ⌝ }
-    ensures { λ _. ⌜ now (out .exit) ≡ sets (now (out .entry)) at (halfBytes v) ⌝ }
-{
-    out[at] = (v % 256) as u8;
-    out[at + 1] = (v / 256) as u8;
-}
-
 // What follows a record, from the byte at on.
 fn put_tail(out: &mut [u8], at: usize, size: Corrected, home: Home)
     requires { ⌜ at + 12 ≤ length (now out) ⌝ }
@@ -85,8 +74,8 @@ fn put_tail(out: &mut [u8], at: usize, size: Corrected, home: Home)
     ensures { λ _. ⌜ now (out .exit) ≡ sets (now (out .entry)) at (tailBytes size home) ⌝ }
 {
     words::put_float(out, at, given_sigma(size));
-    put_half(out, at + 4, home.row);
-    put_half(out, at + 6, home.col);
+    words::put_half(out, at + 4, home.row);
+    words::put_half(out, at + 6, home.col);
     words::put_bytes(out, at + 8, accepted_of(size), missing_of(size), 0, 0);
 }
 

@@ -1,7 +1,6 @@
 // The judgement of one pixel: from the samples at its nine places to the record it lists, if any. It knows nothing of maps.
 pub mod gate;
 pub mod judge;
-pub mod listed;
 pub mod ring;
 
 use record::Record;

@@ -9,6 +9,7 @@ use contract.Monad.{Fun}
 use Rattle.words.proofs.bits as bits
 use Rattle.words.proofs.float_of as float-of
 use Rattle.words.proofs.put_bytes as put-bytes
+use Rattle.words.proofs.put_half as put-half
 use Rattle.words.proofs.put_word as put-word
 use Rattle.words.proofs.put_float as put-float
 use Rattle.words.proofs.word_from as word-from
@@ -32,6 +33,9 @@ module _ {M : Type 1} (𝓤 : URA M) (H : Heap 𝓤) (A : Atoms 𝓤) (mem : Mem
 
   pub put-bytes-settled : Settles 𝓤 put-bytes.ended (put-bytes.clauses 𝓤 H A mem run)
   put-bytes-settled κs a g g' r r' ws ws' = one-value 𝓤 _ _ _ (λ x. tt) (λ x. (x, untouched 5 tt))
+
+  pub put-half-settled : Settles 𝓤 put-half.ended (put-half.clauses 𝓤 H A mem run)
+  put-half-settled κs a g g' r r' ws ws' = one-value 𝓤 _ _ _ (λ x. tt) (λ x. (x, untouched 2 tt))
 
   pub put-word-settled : Settles 𝓤 put-word.ended (put-word.clauses 𝓤 H A mem run)
   put-word-settled κs a g g' r r' ws ws' = one-value 𝓤 _ _ _ (λ x. tt) (λ x. (x, untouched 2 tt))

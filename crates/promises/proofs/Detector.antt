@@ -24,6 +24,9 @@ use Rattle.states.proofs.start as start
 use Rattle.states.proofs.column as column
 use Rattle.detect.proofs.detect as detect
 use Rattle.tiles.proofs.tiles_of as tiles-of
+use Rattle.tiles.proofs.start_of as start-of
+use Rattle.tiles.proofs.length_of as length-of
+use Rattle.scene_checks.proofs.checked as scene-checked
 use Rattle.scene.proofs.scene as scene
 use Rattle.join.proofs.join as join
 use Rattle.size.proofs.correct as correct
@@ -113,6 +116,15 @@ module _ {M : Type 1} (𝓤 : URA M) (H : Heap 𝓤) (A : Atoms 𝓤) (mem : Mem
 
   pub tiles-of-settled : Settles 𝓤 tiles-of.ended (tiles-of.clauses 𝓤 H A mem run)
   tiles-of-settled κs a g g' r r' ws ws' = one-answer 𝓤 _
+
+  pub start-of-settled : Settles 𝓤 start-of.ended (start-of.clauses 𝓤 H A mem run)
+  start-of-settled κs a g g' r r' ws ws' = one-answer 𝓤 _
+
+  pub length-of-settled : Settles 𝓤 length-of.ended (length-of.clauses 𝓤 H A mem run)
+  length-of-settled κs a g g' r r' ws ws' = one-answer 𝓤 _
+
+  pub scene-checked-settled : Settles 𝓤 scene-checked.ended (scene-checked.clauses 𝓤 H A mem run)
+  scene-checked-settled κs a g g' r r' ws ws' = one-answer 𝓤 _
 
   -- a scene's answer, the four tile slices and the output
   pub scene-settled : Settles 𝓤 scene.ended (scene.clauses 𝓤 H A mem run)

@@ -48,7 +48,7 @@ use Rattle.pixel.proofs.ring.beats_all as beats-all
 use Rattle.pixel.proofs.judge.cubics_of as cubics-of
 use Rattle.pixel.proofs.judge.verdict as verdict
 use Rattle.pixel.proofs.judge.listing as listing
-use Rattle.pixel.proofs.listed.lay_listing as lay-listing
+use Rattle.listing.proofs.lay_listing as lay-listing
 use Rattle.profile.proofs.profile_compatibility_statistic as profile-compatibility-statistic
 use Rattle.size.proofs.anchor.geometry_of as geometry-of
 use Rattle.size.proofs.anchor.profile_beta_from_statistic as profile-beta-from-statistic

@@ -12,7 +12,7 @@ use Rattle.samples.specs.Level.{Maps}
 use Rattle.tiles.specs.Copy.{gather}
 use Rattle.tile.specs.Numbered.{numberedWidth, allBytes}
 use Rattle.tile.proofs.NumberedLaws.{length-allBytes, all-append}
-use Rattle.scene.specs.Tiled.{firstTiles}
+use Rattle.turn.specs.Tiled.{firstTiles}
 use Rattle.scene.specs.Scene.{bytesTo, wholeTiles}
 
 -- ---- the tiles' bytes are the list's

@@ -1,5 +1,3 @@
--- Laws of a scene's tiles, one after the other, and of its checks.
+-- Laws of a scene's tiles, one after the other.
 pub mod BytesLaws
-pub mod TurnLaws
 pub mod RunLaws
-pub mod ChecksLaws

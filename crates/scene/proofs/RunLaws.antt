@@ -27,9 +27,10 @@ use Rattle.tile.specs.declared.Filled.{Filled}
 use Rattle.tile.specs.declared.Filled.the-variants.{WholeTile, Full}
 use Rattle.tile.proofs.NumberedLaws.{length-tileBytes, long-map}
 use Rattle.scene.specs.declared.Answer.the-variants as answer
-use Rattle.scene.specs.Tiled.{tileCopy, tileMaps, tileList, across, tiles, firstTiles}
-use Rattle.scene.specs.Scene.{bytesTo, front, copiesTo, after, answerOf, copiedOf, leftOf}
-use Rattle.scene.specs.Turn.{SceneIn, TileAfter, leftAll}
+use Rattle.scene_checks.specs.Checks.{SceneIn}
+use Rattle.turn.specs.Tiled.{tileCopy, tileMaps, tileList, across, tiles, firstTiles}
+use Rattle.turn.specs.Turn.{front, TileAfter}
+use Rattle.scene.specs.Scene.{bytesTo, copiesTo, after, answerOf, copiedOf, leftOf, leftAll}
 use Rattle.scene.proofs.BytesLaws.{length-bytesTo, whole-all, whole-before}
 
 -- ---- what a tile's answer tells

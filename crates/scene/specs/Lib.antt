@@ -1,4 +1,2 @@
--- Whole scenes, cut into tiles: the list, and what a scene answers and leaves. The public promise cites these.
-pub mod Tiled
+-- What a scene answers and leaves. The public promise cites these.
 pub mod Scene
-pub mod Turn

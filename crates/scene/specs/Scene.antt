@@ -1,65 +1,31 @@
 -- What a scene answers, and what it leaves in the five lent buffers, as one value of its input. Definitions only.
-use Prim.Native.Nat.{ℕ, zero, suc, _*_, _/_, _%_, min}
-use mathlib.Core.Bool.{cond, _||_}
-use mathlib.Core.List.{List, [], _∷_, _++_}
-use lib.ListN.{length, drop}
-use lib.Dec.{ltb, leb, eqb}
+use Prim.Native.Nat.{ℕ, zero, suc, _/_, _%_, min}
+use mathlib.Core.Bool.{cond}
+use mathlib.Core.List.{List}
+use lib.ListN.{length}
+use lib.Dec.{leb, eqb}
 use lib.Ieee.{Float}
 use Rattle.tables.specs.declared.Set.{Set}
 use Rattle.tables.specs.declared.Thresholds.{Thresholds}
-use Rattle.tables.specs.declared.Refusal.the-variants as refusal
 use Rattle.tables.specs.declared.Checked.{Checked}
 use Rattle.tables.specs.declared.Checked.the-variants.{Fine, Bad}
-use Rattle.tables.specs.Refusal.{Check, _when_, firstOf, octaveCheck, thresholdsCheck, setCheck}
-use Rattle.checks.specs.Checks.{levelsCheck}
+use Rattle.tables.specs.Refusal.{firstOf}
 use Rattle.pixel.specs.declared.Frame.{Frame}
 use Rattle.samples.specs.Level.{Maps, mapsOf}
-use Rattle.tiles.specs.Tiles.{lengthOf}
+use Rattle.tiles.specs.Tiles.{tileStep}
 use Rattle.tiles.specs.Copy.{gather}
 use Rattle.tile.specs.Numbered.{allBytes}
-use Rattle.scene.specs.Tiled.{tileCopy, tileList, across, tiles, firstTiles}
+use Rattle.scene_checks.specs.Checks.{sceneChecks}
+use Rattle.turn.specs.Tiled.{tileCopy, tileList, across, tiles, firstTiles}
+use Rattle.turn.specs.Turn.{front}
 use Rattle.scene.specs.declared.Answer.{Answer}
 use Rattle.scene.specs.declared.Answer.the-variants.{Found, Full, Refused}
-
--- ---- refusals
-
--- the longest side of a scene
-abbrev pub mostScene : ℕ
-mostScene = 16384
-
--- 10: rows or cols above it
-abbrev pub sceneCheck : ℕ → ℕ → Check
-sceneCheck rows cols = refusal.Scene when (ltb mostScene rows || ltb mostScene cols)
-
--- how many pixels the first tile has, which is the largest
-abbrev pub tileRoom : ℕ → ℕ → ℕ → ℕ
-tileRoom step rows cols = lengthOf step rows 0 * lengthOf step cols 0
-
--- 6: a tile slice of t0 to t3 floats is too short for the first tile
-abbrev pub roomCheck : ℕ → ℕ → ℕ → ℕ → ℕ → ℕ → ℕ → Check
-roomCheck step rows cols t0 t1 t2 t3 =
-    let need = tileRoom step rows cols in refusal.Room when (ltb t0 need || (ltb t1 need || (ltb t2 need || ltb t3 need)))
-
--- a scene's checks before the first tile, in their order: 10, 2, 3, 8, 4, 6
-unfoldable pub sceneChecks : ℕ → ℕ → ℕ → ℕ → ℕ → ℕ → ℕ → ℕ → Thresholds → Set → ℕ → ℕ → ℕ → ℕ → List Check
-sceneChecks step n0 n1 n2 n3 rows cols octave th s t0 t1 t2 t3 =
-    sceneCheck rows cols
-    ∷ levelsCheck n0 n1 n2 n3 (rows * cols)
-    ∷ octaveCheck octave
-    ∷ thresholdsCheck th
-    ∷ setCheck s
-    ∷ roomCheck step rows cols t0 t1 t2 t3
-    ∷ []
 
 -- ---- the tiles' bytes and copies
 
 -- the bytes of the first n tiles' records, one tile after the other, row by row
 unfoldable pub bytesTo : ℕ → Maps → ℕ → List ℕ
 bytesTo step m n = gather (λ k. allBytes (m .set) (tileList step m (k / across step (m .frame)) (k % across step (m .frame)))) n
-
--- xs at the front, and what lies past them is kept
-abbrev pub front : {A : Type 0} → List A → List A → List A
-front xs old = xs ++ drop (length xs) old
 
 -- what the copies of a level's first n tiles leave in a tile slice
 unfoldable pub copiesTo : ℕ → Frame → List Float → ℕ → List Float → List Float
@@ -114,3 +80,7 @@ sceneOf step s th rows cols octave l0 l1 l2 l3 t0 t1 t2 t3 out =
     sceneBy
     (firstOf (sceneChecks step (length l0) (length l1) (length l2) (length l3) rows cols octave th s (length t0) (length t1) (length t2) (length t3)))
     step (mapsOf l0 l1 l2 l3 (record { rows = rows; cols = cols; octave = octave }) s th) t0 t1 t2 t3 out
+
+-- what a scene leaves that passed its checks, with the code's step
+abbrev pub leftAll : Maps → List Float → List Float → List Float → List Float → List ℕ → After
+leftAll m t0 t1 t2 t3 out = leftOf tileStep m (wholeTiles tileStep m (length out) (tiles tileStep (m .frame))) t0 t1 t2 t3 out

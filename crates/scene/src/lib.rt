@@ -1,5 +1,4 @@
 // Whole scenes: cut into tiles, each copied, detected and joined as a map of its own.
-mod check; // check.rt: the refusals before the first tile
 mod run; // run.rt: the tiles one after the other
 
 ghost use mathlib.Core.Path.{_≡_};
@@ -38,7 +37,7 @@ pub fn scene<'a>(
         ≡ sceneOf tileStep set thresholds rows cols octave (now (l0 .entry)) (now (l1 .entry)) (now (l2 .entry)) (now (l3 .entry))
         (now (t0 .entry)) (now (t1 .entry)) (now (t2 .entry)) (now (t3 .entry)) (now (out .entry)) ⌝ }
 {
-    let check = check::checked(
+    let check = scene_checks::checked(
         l0.len(),
         l1.len(),
         l2.len(),

@@ -15,11 +15,11 @@ use Rattle.tiles.specs.Copy.{gather}
 use Rattle.tiles.proofs.TilesLaws.{on-side}
 use Rattle.tiles.proofs.GatherLaws.{gather-same, gather-map, gather-two, side-tiles, gather-perm, gather-swap}
 use Rattle.tile.specs.Numbered.{numbered}
-use Rattle.scene.specs.Tiled.{tileMaps, tileList, across, tiles, firstTiles}
+use Rattle.turn.specs.Tiled.{tileMaps, tileList, across, tiles, firstTiles}
 use Rattle.seamless.specs.Untiled.{Sight, sightOf, sightWhole, untiled, sightIn, tiled}
 use Rattle.seamless.specs.Claims.{Long, Sides}
 use Rattle.seamless.proofs.Copies.{nine-agree}
-use Rattle.demands.proofs.Form.{lists, madeAt, verdict-form}
+use Rattle.seamless.proofs.Form.{lists, madeAt, verdict-form}
 use Rattle.detect.specs.Due.{judgeOf, pixelDue, rowDue, rowsDue, due}
 use Rattle.pixel.specs.Listed.{listed}
 use Rattle.samples.specs.Level.{Maps, nineAt, Within}

@@ -33,8 +33,9 @@ use Rattle.tiles.proofs.CopyLaws.{copy-long}
 use Rattle.tile.specs.Numbered.{numbered, numberedBytes, allBytes, tileBytes}
 use Rattle.tile.specs.Tile.{Small, foundIn}
 use Rattle.tile.proofs.ListLaws.{detects}
-use Rattle.scene.specs.Tiled.{tileCopy, tileMaps, tileList, across}
-use Rattle.scene.specs.Scene.{bytesTo, front}
+use Rattle.turn.specs.Tiled.{tileCopy, tileMaps, tileList, across}
+use Rattle.turn.specs.Turn.{front}
+use Rattle.scene.specs.Scene.{bytesTo}
 use Rattle.seamless.specs.Claims.{Long}
 use Rattle.seamless.specs.Alone.{withNumbers, Alone}
 

@@ -17,12 +17,13 @@ use Rattle.tables.specs.declared.Checked.the-variants.{Fine, Bad}
 use Rattle.tables.specs.Refusal.{firstOf}
 use Rattle.samples.specs.Level.{Maps}
 use Rattle.tiles.specs.Tiles.{tileStep}
-use Rattle.scene.specs.Tiled.{tiles, firstTiles}
-use Rattle.scene.specs.Scene.{sceneChecks, bytesTo, front, wholeTiles, After, answerOf, leftOf, sceneBy, sceneOf}
-use Rattle.scene.specs.Turn.{SceneIn, sceneMaps, leftAll}
-use Rattle.scene.specs.declared.Answer.the-variants.{Found, Full}
+use Rattle.scene_checks.specs.Checks.{sceneChecks, SceneIn}
+use Rattle.scene_checks.proofs.ChecksLaws.{opens}
+use Rattle.turn.specs.Tiled.{tiles, firstTiles}
+use Rattle.turn.specs.Turn.{front, sceneMaps}
+use Rattle.scene.specs.Scene.{bytesTo, wholeTiles, After, answerOf, leftOf, sceneBy, sceneOf, leftAll}
 use Rattle.scene.proofs.BytesLaws.{bytes-of-tiles, whole-fits}
-use Rattle.scene.proofs.ChecksLaws.{opens}
+use Rattle.scene.specs.declared.Answer.the-variants.{Found, Full}
 use Rattle.seamless.specs.Claims.{Long}
 use Rattle.seamless.specs.Alone.{Listing, Partly}
 use Rattle.seamless.proofs.Once.{scene-bijection}

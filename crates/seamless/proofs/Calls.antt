@@ -8,14 +8,13 @@ use lib.ListN.{length}
 use lib.Ieee.{Float}
 use Rattle.tables.specs.declared.Set.{Set}
 use Rattle.tables.specs.declared.Thresholds.{Thresholds}
-use Rattle.pixel.specs.declared.Frame.{Frame}
 use Rattle.samples.specs.Level.{Maps}
 use Rattle.demands.specs.TwoMaps.{Lossy}
 use Rattle.tiles.specs.Tiles.{tileStep}
 use Rattle.tile.specs.Numbered.{Numbered, allBytes}
-use Rattle.scene.specs.Tiled.{sceneList}
-use Rattle.scene.specs.Scene.{front, After, sceneOf}
-use Rattle.scene.specs.Turn.{sceneMaps}
+use Rattle.turn.specs.Tiled.{sceneList}
+use Rattle.turn.specs.Turn.{front, sceneMaps}
+use Rattle.scene.specs.Scene.{sceneOf}
 use Rattle.scene.specs.declared.Answer.the-variants.{Found}
 use Rattle.seamless.specs.Claims.{keepIf, sparedIn}
 use Rattle.seamless.proofs.Lost.{scenes-two}

@@ -10,7 +10,7 @@ use Rattle.tiles.specs.Copy.{tileLevel}
 use Rattle.tiles.proofs.TilesLaws.{on-side}
 use Rattle.tiles.proofs.CopyLaws.{copy-pixel}
 use Rattle.seamless.specs.Claims.{Long}
-use Rattle.scene.specs.Tiled.{tileFrame, tileMaps}
+use Rattle.turn.specs.Tiled.{tileFrame, tileMaps}
 use Rattle.grid.specs.Grid.{pixelAt}
 use Rattle.samples.specs.Level.{Maps, sampleAt, samplesOf, samplesAt, placesOf, nineAt, Within}
 

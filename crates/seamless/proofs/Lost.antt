@@ -18,7 +18,7 @@ use Rattle.tiles.proofs.TilesLaws.{on-side, some-tile}
 use Rattle.tiles.proofs.GatherLaws.{gather-same}
 use Rattle.tiles.proofs.CopyLaws.{copy-pixel}
 use Rattle.tile.specs.Numbered.{Numbered, numbered}
-use Rattle.scene.specs.Tiled.{tileFrame, tileCopy, tileMaps, tileList, across, tiles, firstTiles, sceneList}
+use Rattle.turn.specs.Tiled.{tileFrame, tileCopy, tileMaps, tileList, across, tiles, firstTiles, sceneList}
 use Rattle.seamless.specs.Claims.{keepIf, sparedIn, Long}
 use Rattle.detect.specs.Due.{due}
 use Rattle.grid.specs.Grid.{pixelAt}

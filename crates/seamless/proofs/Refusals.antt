@@ -15,9 +15,10 @@ use Rattle.tables.specs.declared.Checked.the-variants.{Fine, Bad}
 use Rattle.tables.specs.Refusal.{Check, saidAt, First}
 use Rattle.tables.proofs.RefusalLaws as laws
 use Rattle.samples.specs.Level.{Maps}
-use Rattle.scene.specs.Tiled.{tiles, firstTiles}
-use Rattle.scene.specs.Scene.{sceneChecks, After, after, answerOf, leftOf, sceneBy, sceneOf}
-use Rattle.scene.specs.Turn.{sceneMaps, leftAll}
+use Rattle.scene_checks.specs.Checks.{sceneChecks}
+use Rattle.turn.specs.Tiled.{tiles, firstTiles}
+use Rattle.turn.specs.Turn.{sceneMaps}
+use Rattle.scene.specs.Scene.{After, after, answerOf, leftOf, sceneBy, sceneOf, leftAll}
 use Rattle.scene.specs.declared.Answer.the-variants.{Found, Full, Refused}
 use Rattle.tiles.specs.Tiles.{tileStep}
 

@@ -11,14 +11,16 @@ use Rattle.record.specs.Layout.{spotWidth, laid}
 use Rattle.samples.specs.Level.{Maps, Within}
 use Rattle.detect.specs.Detect as detect
 use Rattle.detect.specs.declared.Answer.the-variants as detected
-use Rattle.join.specs.Sized.{sizedWidth, halfBytes}
+use Rattle.words.specs.Words.{halfBytes}
+use Rattle.join.specs.Sized.{sizedWidth}
 use Rattle.join.specs.Join as join
 use Rattle.join.specs.declared.Joined.the-variants.{Count}
 use Rattle.pixel.specs.declared.Frame.{Frame}
 use Rattle.tiles.specs.Tiles.{tileStep, tilesOf, startOf}
 use Rattle.tile.specs.Numbered.{allBytes}
-use Rattle.scene.specs.Tiled.{tileFrame, tiles, sceneList}
-use Rattle.scene.specs.Scene.{bytesTo, front, After}
+use Rattle.turn.specs.Tiled.{tileFrame, tiles, sceneList}
+use Rattle.turn.specs.Turn.{front}
+use Rattle.scene.specs.Scene.{bytesTo, After}
 use Rattle.seamless.specs.Untiled.{untiled, tiled}
 use Rattle.seamless.specs.Claims.{SameOnce}
 

@@ -11,7 +11,7 @@ use Rattle.samples.specs.Level.{Maps}
 use Rattle.detect.specs.Due.{due}
 use Rattle.tiles.specs.Tiles.{startOf, lengthOf}
 use Rattle.tile.specs.Numbered.{Numbered}
-use Rattle.scene.specs.Tiled.{sceneList}
+use Rattle.turn.specs.Tiled.{sceneList}
 
 -- a spot by its scene pixel: what a tile and the untiled scene tell alike. x, y, the order key and the home pixel are not here: they are a tile's own
 pub record Sight : Type 0 where

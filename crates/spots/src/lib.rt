@@ -67,7 +67,7 @@ fn pixel_spots<'a>(
     };
     let g = set.sigmas;
     let nine = ring::nine_at(r0, r1, r2, r3, c0, c1, c2, c3, s.rows, s.position, g, row);
-    pixel::listed::lay_listing(set, th, f, &nine, row, s.position - 2, out, n)
+    listing::lay_listing(set, th, f, &nine, row, s.position - 2, out, n)
 }
 
 // The same of a pixel told by its mark. Most pixels have none.

@@ -6,7 +6,7 @@ use mathlib.Core.List.{List, [], _∷_, _++_, map, append-nil, append-assoc}
 use lib.ListN.{length, length-append}
 use Rattle.tables.specs.declared.Set.{Set}
 use Rattle.record.specs.declared.Record.{Record}
-use Rattle.join.specs.Sized.{halfBytes}
+use Rattle.words.specs.Words.{halfBytes}
 use Rattle.join.proofs.SizedLaws.{length-sizedBytes}
 use Rattle.tile.specs.Numbered.{numberedWidth, Numbered, numbered, numberedBytes, allBytes, tileBytes}
 

@@ -11,7 +11,8 @@ use Rattle.record.specs.declared.Record.{Record}
 use Rattle.record.specs.Layout.{spotWidth, recordFrom}
 use Rattle.record.specs.Readable.{readable}
 use Rattle.record.proofs.Converse.{record-own, same-bytes-same-record}
-use Rattle.join.specs.Sized.{halfBytes, sizedBytes}
+use Rattle.words.specs.Words.{halfBytes}
+use Rattle.join.specs.Sized.{sizedBytes}
 use Rattle.words.proofs.Stores.{sets-append}
 use Rattle.words.proofs.Parts.{take-sets, drop-sets}
 use Rattle.tile.specs.Numbered.{numberedWidth, numbered, numberedBytes, allBytes, tileBytes}

@@ -3,7 +3,8 @@ use Prim.Native.Nat.{ℕ}
 use mathlib.Core.List.{List, [], _∷_, _++_, map}
 use Rattle.tables.specs.declared.Set.{Set}
 use Rattle.record.specs.declared.Record.{Record}
-use Rattle.join.specs.Sized.{halfBytes, sizedBytes}
+use Rattle.words.specs.Words.{halfBytes}
+use Rattle.join.specs.Sized.{sizedBytes}
 
 -- how many bytes it has: two u16, and the sized record's
 abbrev pub numberedWidth : ℕ

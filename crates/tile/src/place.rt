@@ -10,9 +10,9 @@ ghost use Rattle.tile.specs.Tile.{recordsIn, Single, Sizes, Stand};
 use crate::MORE;
 use crate::NUMBERED_WIDTH;
 use join::SIZED_WIDTH;
-use join::sized::put_half;
 use record::SPOT_WIDTH;
 use tables::Set;
+use words::put_half;
 
 // The bytes of the record that begins at the byte at.
 fn bytes_at(b: &[u8], at: usize) -> [u8; 40]

@@ -13,6 +13,9 @@ pub sets-append : {A : Type 0} (a b l : List A) (i : ℕ) → sets l i (a ++ b) 
 sets-append [] b l i = rw add-zero
 sets-append (x ∷ a) b l i = rw (add-suc, ← suc-add) (sets-append a b (set l i x) (suc i))
 
+pub two-stores : (l : List ℕ) (i a b : ℕ) → set (set l i a) (i + 1) b ≡ sets l i (a ∷ b ∷ [])
+two-stores l i a b = let e : i + 1 ≡ suc i = omega arith in rw e
+
 pub four-stores : (l : List ℕ) (i a b c d : ℕ) → set (set (set (set l i a) (i + 1) b) (i + 2) c) (i + 3) d ≡ sets l i (a ∷ b ∷ c ∷ d ∷ [])
 four-stores l i a b c d =
     let e1 : i + 1 ≡ suc i = omega arith in

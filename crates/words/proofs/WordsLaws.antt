@@ -9,13 +9,17 @@ use lib.Seq.{getD-append-add}
 use lib.Dec.{T}
 use lib.Ieee.{Float, binary32, fits, ofBits, toBits}
 use lib.Ieee.Bits.{ofBits-toBits, toBits-lt}
-use Rattle.words.specs.Words.{wordBytes, floatBytes, wordFrom, floatFrom, floatsAt}
+use Rattle.words.specs.Words.{wordBytes, halfBytes, floatBytes, wordFrom, floatFrom, floatsAt}
 
 -- ---- lengths
 
 pub length-wordBytes : (v : ℕ) → length (wordBytes v) ≡ 4
 unfolding wordBytes
 length-wordBytes v = refl
+
+pub length-halfBytes : (v : ℕ) → length (halfBytes v) ≡ 2
+unfolding halfBytes
+length-halfBytes v = refl
 
 pub length-floatBytes : (x : Float) → length (floatBytes x) ≡ 4
 unfolding floatBytes wordBytes

@@ -10,7 +10,11 @@ use lib.Ieee.{Float, binary32, ofBits, toBits}
 unfoldable pub wordBytes : ℕ → List ℕ
 wordBytes v = v % 256 ∷ v / 256 % 256 ∷ v / 65536 % 256 ∷ v / 16777216 % 256 ∷ []
 
--- a float's, by its bit pattern
+-- a u16's two bytes, the lower first
+unfoldable pub halfBytes : ℕ → List ℕ
+halfBytes v = v % 256 ∷ v / 256 ∷ []
+
+-- a float's four, by its bit pattern
 unfoldable pub floatBytes : Float → List ℕ
 floatBytes x = wordBytes (toBits binary32 x)
 

@@ -1,11 +1,11 @@
 // Words and floats as little-endian bytes, written and read.
 ghost use mathlib.Core.Path.{_≡_};
 ghost use mathlib.Core.List.{[], _∷_};
-ghost use Prim.Native.Nat.{_+_, _*_, _<_, _≤_};
+ghost use Prim.Native.Nat.{_+_, _*_, _^_, _<_, _≤_};
 ghost use lib.ListN.{length};
 ghost use lib.Seq.{sets};
 ghost use lib.Ieee.{binary32, toBits, ofBits};
-ghost use Rattle.words.specs.Words.{wordBytes, floatBytes, wordFrom, floatFrom, floatsAt};
+ghost use Rattle.words.specs.Words.{wordBytes, halfBytes, floatBytes, wordFrom, floatFrom, floatsAt};
 
 // The bit pattern of x, any NaN as 0x7fc00000.
 pub fn bits(x: f32) -> u32
@@ -36,6 +36,16 @@ pub fn put_bytes(out: &mut [u8], at: usize, a: u8, b: u8, c: u8, d: u8)
     out[at + 1] = b;
     out[at + 2] = c;
     out[at + 3] = d;
+}
+
+// A u16's two bytes from the byte at on, the lower first.
+pub fn put_half(out: &mut [u8], at: usize, v: usize)
+    requires { ⌜ at + 2 ≤ length (now out) ⌝ }
+    requires { ⌜ v < 2 ^ 16 ⌝ }
+    ensures { λ _. ⌜ now (out .exit) ≡ sets (now (out .entry)) at (halfBytes v) ⌝ }
+{
+    out[at] = (v % 256) as u8;
+    out[at + 1] = (v / 256) as u8;
 }
 
 // The word's four bytes from the byte at on, the lowest first.

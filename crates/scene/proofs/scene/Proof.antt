@@ -1,7 +1,7 @@
 -- `scene` meets its contract.
 use mathlib.Core.Path.{sym, _∙_}
+use Rattle.scene_checks.proofs.ChecksLaws.{opens}
 use Rattle.scene.specs.Scene.{sceneOf, sceneBy}
-use Rattle.scene.proofs.ChecksLaws.{opens}
 use borrow.Author.Needs.{needs}
 use Rattle.scene.proofs.scene.Statement.{statement}
 use Rattle.scene.proofs.scene.Tie as tie

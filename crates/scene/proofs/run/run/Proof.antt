@@ -4,9 +4,9 @@ use native.Mathlib.Omega.{arith}
 use Prim.Native.Nat.{_*_, _-_, _≤_, _<_}
 use mathlib.Core.Path.{_≡_, _∙_}
 use Rattle.tiles.specs.Tiles.{tileStep, tilesOf}
-use Rattle.scene.specs.Turn.{sceneMaps}
-use Rattle.tiles.proofs.TilesLaws.{some-tile}
+use Rattle.turn.specs.Turn.{sceneMaps}
 use Rattle.scene.proofs.RunLaws.{After-tiles, start-tiles, turn-at, lies, next-with, full-with, all-tiles, few-products, still-in}
+use Rattle.tiles.proofs.TilesLaws.{some-tile}
 use Rattle.scene.proofs.run.run.Statement.{statement}
 use Rattle.scene.proofs.run.run.Tie as tie
 

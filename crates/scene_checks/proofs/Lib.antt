@@ -1,0 +1,2 @@
+-- What a scene is that passed its checks.
+pub mod ChecksLaws

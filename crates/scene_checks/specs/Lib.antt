@@ -1,0 +1,2 @@
+-- A scene's checks. The public promise cites these.
+pub mod Checks

@@ -1,0 +1,2 @@
+-- Laws of one tile of a scene.
+pub mod TurnLaws
