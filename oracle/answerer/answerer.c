@@ -215,6 +215,30 @@ static void feed_column(void) {
     free(out.bytes);
 }
 
+static void scene(void) {
+    Bytes set = bytes();
+    float thresholds[5];
+    for (int i = 0; i < 5; i++) thresholds[i] = real();
+    size_t rows = number(), cols = number(), octave = number();
+    Reals l[4], t[4];
+    for (int i = 0; i < 4; i++) l[i] = reals();
+    for (int i = 0; i < 4; i++) t[i] = reals();
+    Bytes out = bytes();
+    uint64_t value = UINT64_MAX;
+    answer(uramsheg_scene(set.bytes, set.length, thresholds[0], thresholds[1], thresholds[2], thresholds[3], thresholds[4], rows, cols, octave,
+                          l[0].values, l[0].length, l[1].values, l[1].length, l[2].values, l[2].length, l[3].values, l[3].length, t[0].values,
+                          t[0].length, t[1].values, t[1].length, t[2].values, t[2].length, t[3].values, t[3].length, out.bytes, out.length, &value));
+    answer(value);
+    for (int i = 0; i < 4; i++) {
+        give_reals(t[i]);
+        free(l[i].values);
+        free(t[i].values);
+    }
+    give(out.bytes, out.length);
+    free(set.bytes);
+    free(out.bytes);
+}
+
 static void set_check(void) {
     Bytes set = bytes();
     answer(uramsheg_set_check(set.bytes, set.length));
@@ -234,6 +258,7 @@ int main(void) {
         case 'l': levels(); break;
         case 'f': feed_start(); break;
         case 'g': feed_column(); break;
+        case 't': scene(); break;
         default: stop("no such request");
         }
         fflush(stdout);

@@ -12,9 +12,10 @@ mod fixed_sets;
 mod substitutions;
 
 const PUBLISHED: [&str; 4] = ["scale_fit.rs", "reference.rs", "stream.rs", "blur.rs"];
-const DOCUMENT: [&str; 10] = [
+const DOCUMENT: [&str; 12] = [
     "admission.rs",
     "causes.rs",
+    "columns.rs",
     "counting.rs",
     "entries.rs",
     "feed.rs",
@@ -22,6 +23,7 @@ const DOCUMENT: [&str; 10] = [
     "levels.rs",
     "list.rs",
     "record.rs",
+    "scene.rs",
     "steps.rs",
 ];
 
@@ -194,7 +196,7 @@ fn write_document(
             fs::write(&path, entry.applied(&sound).unwrap()).unwrap();
         }
         let name = file.trim_end_matches(".rs");
-        let seen = if ["feed.rs", "levels.rs", "steps.rs"].contains(&file) {
+        let seen = if ["feed.rs", "levels.rs", "scene.rs", "steps.rs"].contains(&file) {
             "pub"
         } else {
             "pub(crate)"

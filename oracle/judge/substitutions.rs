@@ -170,8 +170,11 @@ pub const REFERENCE: &[Substitution] = &[
                             `240.33+49 bea8d7e13f5e`
                         })",
     ),
-    // The one column that a feed judges.
-    At("214.24+21 3bf3f8eb063e", "crate::feed::judged_of(`old`)"),
+    // The columns that are chosen: the one that a feed judges, those of a scene where a pixel is not 0.
+    At("214.24+21 3bf3f8eb063e", "crate::columns::judged_of(`old`)"),
+    // Where a scene's spot is refined: at its place in the tile that judges it.
+    At("245.28+3 f6a9ad78f28e", "crate::scene::own(`old`, cols)"),
+    At("246.28+3 d6f675604180", "crate::scene::own(`old`, rows)"),
     // Why a candidate is rejected.
     At(
         "235.26+29 eae6b9eb9211",

@@ -23,7 +23,7 @@ pub struct Raw {
     pub pixels: Vec<f32>,
 }
 
-/// What a feed of columns is started with, beside its ring and its state.
+/// What a feed of columns is started with, or a whole scene given, beside its pixels and what it is lent.
 #[derive(Clone, Debug)]
 pub struct Start {
     pub record: Vec<u8>,
@@ -101,6 +101,15 @@ pub enum Case {
     FromRaw { scene: Scene, pixels: Vec<f32> },
     /// Feeds started one after another, then columns given to them.
     Fed { feeds: Vec<Feed>, given: Vec<Given> },
+    /// A whole scene by tiles: with four slices of `slices` floats, the k-th filled by the pattern of `fill` + k first, and `rooms` bytes, each filled with the
+    /// lowest of `fill`; again with the next room while it is refused for its room, the slices as they were left.
+    Tiled {
+        given: Start,
+        levels: Levels,
+        slices: [usize; 4],
+        rooms: Vec<usize>,
+        fill: u32,
+    },
     /// An inner function on words.
     Inner {
         function: &'static str,

@@ -12,12 +12,13 @@ use crate::overshoot;
 use crate::random::{Random, power};
 use crate::records::{self, SIZED, SPOT};
 use crate::rounding;
+use crate::scenes;
 use crate::sets::{self, Set};
 use crate::turning;
 use crate::words::{self, FUNCTIONS};
 
 /// The families of cases. `inner` counts through the inner functions.
-pub const FAMILIES: [&str; 31] = [
+pub const FAMILIES: [&str; 32] = [
     "list",
     "detect",
     "join",
@@ -49,6 +50,7 @@ pub const FAMILIES: [&str; 31] = [
     "feeds",
     "starts",
     "forged",
+    "scenes",
 ];
 
 /// The case of a family with the given seed and number.
@@ -71,7 +73,8 @@ pub fn expand(family: &str, seed: u64, number: usize) -> Case {
         },
         "wide" => wide(random, number),
         "widest" if number == 0 => widest(random),
-        "widest" => levels::widest(random),
+        "widest" if number == 1 => levels::widest(random),
+        "widest" => scenes::widest(random),
         "blanks" => limits::blank(random, number),
         "limits" => limits::odd(random, number),
         "homes" => homes::join(random, number),
@@ -84,6 +87,7 @@ pub fn expand(family: &str, seed: u64, number: usize) -> Case {
         "feeds" => feeds::run(random, number),
         "starts" => feeds::start(random, number),
         "forged" => feeds::forged(random, number),
+        "scenes" => scenes::tiled(random, number),
         "overshoot" => overshoot::correction(random),
         "mirrored" => mirrored::correction(random),
         "cancelling" => rounding::cancelling(random),
@@ -150,6 +154,11 @@ pub fn thresholds(random: &mut Random, set: &Set) -> [f32; 5] {
         thresholds[random.below(5)] = odd;
     }
     thresholds
+}
+
+/// The thresholds with a number for each NaN.
+pub(crate) fn without_nan(thresholds: [f32; 5]) -> [f32; 5] {
+    thresholds.map(|t| if t.is_nan() { 0.5 } else { t })
 }
 
 /// A side from 0 to 60, most often near or above the smallest that is judged.
@@ -236,9 +245,8 @@ pub fn named(number: usize) -> Option<Scene> {
     Some(scene)
 }
 
-/// A map in which a window that holds 0 lists every judged pixel.
-fn full(random: &mut Random) -> Scene {
-    let (rows, cols) = random.pick(&[(60, 60), (60, 60), (48, 49), (9, 60), (30, 20)]);
+/// A map of these sides in which a window that holds 0 lists every judged pixel, if it is not too long.
+pub(crate) fn full_of(random: &mut Random, rows: usize, cols: usize) -> Scene {
     Scene {
         set: sets::every_pixel(),
         thresholds: [random.pick(&[0.0, -1.0]), 0.0, f32::INFINITY, -1.0, 9.0],
@@ -247,6 +255,12 @@ fn full(random: &mut Random) -> Scene {
         octave: random.below(6),
         levels: maps::every_pixel(random, rows, cols),
     }
+}
+
+/// The same on sides that the list program takes.
+fn full(random: &mut Random) -> Scene {
+    let (rows, cols) = random.pick(&[(60, 60), (60, 60), (48, 49), (9, 60), (30, 20)]);
+    full_of(random, rows, cols)
 }
 
 /// The faults of number `number`: four that any two can hold at once, and none most often.
@@ -564,21 +578,24 @@ fn wide(random: &mut Random, number: usize) -> Case {
 
 /// A lattice of spots on the longest sides there are.
 fn widest(random: &mut Random) -> Case {
-    let (rows, cols) = (4096, 4096);
+    Case::Detect {
+        scene: latticed(random, 4096, 4096),
+        room: SPOT * 100_000,
+        fill: 7,
+    }
+}
+
+/// A lattice of spots on these sides.
+pub(crate) fn latticed(random: &mut Random, rows: usize, cols: usize) -> Scene {
     let set = sets::real(random);
     let levels = maps::lattice(random, &set, rows, cols);
     let [low, .., high] = set.sigmas;
-    let scene = Scene {
+    Scene {
         set,
         thresholds: [0.0, 0.0, 10.0, low, high],
         rows,
         cols,
         octave: random.below(6),
         levels,
-    };
-    Case::Detect {
-        scene,
-        room: SPOT * 100_000,
-        fill: 7,
     }
 }

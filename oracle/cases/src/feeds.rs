@@ -1,7 +1,7 @@
 //! Feeds of columns: whole runs with refused calls between, starts of every kind, and forged states.
 
 use crate::case::{Case, Feed, Given, Scene, Start};
-use crate::families::{lively, named, scene, under};
+use crate::families::{full_of, lively, named, scene, thresholds, under, without_nan};
 use crate::limits::NANS;
 use crate::maps::{self, Levels};
 use crate::random::Random;
@@ -125,8 +125,8 @@ fn sound(random: &mut Random, which: usize, feed: &Feed, scene: &Scene, column: 
     }
 }
 
-/// Another length, of rows or of what the ring needs.
-fn other(random: &mut Random, length: usize) -> usize {
+/// Another length, of rows, of what the ring needs, or of a level.
+pub(crate) fn other(random: &mut Random, length: usize) -> usize {
     let wrong = [length + 1, length.saturating_sub(1), 0, 2 * length + 1];
     random.pick(&wrong)
 }
@@ -190,14 +190,7 @@ struct Manner {
 /// A map in which every judged pixel is a spot.
 fn full(random: &mut Random) -> Scene {
     let (rows, cols) = (random.from_to(9, 24), random.from_to(9, 24));
-    Scene {
-        set: sets::every_pixel(),
-        thresholds: [random.pick(&[0.0, -1.0]), 0.0, f32::INFINITY, -1.0, 9.0],
-        rows,
-        cols,
-        octave: random.below(6),
-        levels: maps::every_pixel(random, rows, cols),
-    }
+    full_of(random, rows, cols)
 }
 
 /// The scene of a run: document 01's own first, then one in sixteen long, one in sixteen all spots, the others of any kind.
@@ -251,7 +244,7 @@ pub fn run(random: &mut Random, number: usize) -> Case {
 }
 
 /// A record that is not good: damaged, of another length, or with a spare byte.
-fn bad_record(random: &mut Random) -> Vec<u8> {
+pub(crate) fn bad_record(random: &mut Random) -> Vec<u8> {
     match random.below(3) {
         0 => sets::damaged(random).record().to_vec(),
         kind => sets::record(random, 1 + kind),
@@ -259,7 +252,7 @@ fn bad_record(random: &mut Random) -> Vec<u8> {
 }
 
 /// A NaN in one of the five thresholds or in all.
-fn blank(random: &mut Random, thresholds: &mut [f32; 5]) {
+pub(crate) fn blank(random: &mut Random, thresholds: &mut [f32; 5]) {
     let nan = f32::from_bits(random.pick(&NANS));
     match random.below(6) {
         5 => thresholds.fill(nan),
@@ -289,8 +282,7 @@ pub fn start(random: &mut Random, number: usize) -> Case {
     let (rows, cols) = (side(random), side(random));
     let mut start = Start {
         record: set.record().to_vec(),
-        thresholds: crate::families::thresholds(random, &set)
-            .map(|t| if t.is_nan() { 0.5 } else { t }),
+        thresholds: without_nan(thresholds(random, &set)),
         rows,
         cols,
         octave: random.below(6),

@@ -15,6 +15,7 @@ mod overshoot;
 pub mod random;
 pub mod records;
 mod rounding;
+pub mod scenes;
 pub mod sets;
 mod turning;
 pub mod words;

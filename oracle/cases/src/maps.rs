@@ -70,26 +70,61 @@ fn spikes(random: &mut Random, rows: usize, cols: usize) -> Levels {
 /// Round bumps seen at the four sigmas, with some noise.
 fn blobs(random: &mut Random, set: &Set, rows: usize, cols: usize) -> Levels {
     let grain = random.pick(&[0.0, 1e-4, 1e-2]);
-    let squares: [f64; 4] = set.sigmas.map(|s| (f64::from(s) * f64::from(s)).min(400.0));
+    let squares = squares(set);
     let mut levels: Levels =
         core::array::from_fn(|_| field(rows, cols, |_, _| random.between(-grain, grain)));
     for _ in 0..(1 + rows * cols / random.from_to(25, 120)) {
-        let (y, x) = (random.unit() * rows as f64, random.unit() * cols as f64);
-        let own = squares[1] * (0.2 + 2.0 * random.unit());
-        let tall = if random.once_in(2) { 1.0 } else { -1.0 } * (0.2 + random.unit());
-        let squash = 0.6 + 0.8 * random.unit();
-        for (level, square) in levels.iter_mut().zip(squares) {
-            add_bump(
-                level,
-                rows,
-                cols,
-                (y, x, squash),
-                own + square,
-                tall * own / (own + square),
-            );
-        }
+        let at = (random.unit() * rows as f64, random.unit() * cols as f64);
+        add_blob(random, &squares, &mut levels, (rows, cols), at);
     }
     levels
+}
+
+/// Round bumps at these pixels or beside them, seen at the four sigmas, and nothing else.
+pub(crate) fn bumped(
+    random: &mut Random,
+    set: &Set,
+    (rows, cols): (usize, usize),
+    places: &[(usize, usize)],
+) -> Levels {
+    let squares = squares(set);
+    let mut levels: Levels = core::array::from_fn(|_| vec![0.0; rows * cols]);
+    for &(row, col) in places {
+        let at = (
+            row as f64 + random.unit() - 0.5,
+            col as f64 + random.unit() - 0.5,
+        );
+        add_blob(random, &squares, &mut levels, (rows, cols), at);
+    }
+    levels
+}
+
+/// The sigmas' squares, none above 400.
+fn squares(set: &Set) -> [f64; 4] {
+    set.sigmas.map(|s| (f64::from(s) * f64::from(s)).min(400.0))
+}
+
+/// Adds a round bump of any kind as it is seen at the four sigmas.
+fn add_blob(
+    random: &mut Random,
+    squares: &[f64; 4],
+    levels: &mut Levels,
+    (rows, cols): (usize, usize),
+    (y, x): (f64, f64),
+) {
+    let own = squares[1] * (0.2 + 2.0 * random.unit());
+    let tall = if random.once_in(2) { 1.0 } else { -1.0 } * (0.2 + random.unit());
+    let squash = 0.6 + 0.8 * random.unit();
+    for (level, square) in levels.iter_mut().zip(squares) {
+        add_bump(
+            level,
+            rows,
+            cols,
+            (y, x, squash),
+            own + square,
+            tall * own / (own + square),
+        );
+    }
 }
 
 /// Adds a round bump of a height, wide as a variance.
@@ -190,18 +225,55 @@ fn ridges(random: &mut Random, set: &Set, rows: usize, cols: usize) -> Levels {
     through_levels(random, set, &pattern, size)
 }
 
-/// A pattern in each level by a profile, with some noise.
-fn through_levels(random: &mut Random, set: &Set, pattern: &[f32], size: f64) -> Levels {
+/// What a pattern is multiplied by in each level, by a profile.
+fn factors(random: &mut Random, set: &Set) -> [f64; 4] {
     let plain = set.sigmas == [1.0, 2.0, 3.0, 4.0] && !random.once_in(4);
     let profile = if plain {
         random.pick(&PLAIN_PROFILES)
     } else {
         random.pick(&PROFILES)
     };
-    let grain = random.pick(&[0.0, 0.0, 1e-3, 0.1]);
     core::array::from_fn(|level| {
         let sigma = f64::from(set.sigmas[level]);
-        let factor = profile[level] / (sigma * sigma);
+        profile[level] / (sigma * sigma)
+    })
+}
+
+/// Zero but for spikes at these pixels, each with smaller ones beside it, in all levels times a profile.
+pub(crate) fn spiked(
+    random: &mut Random,
+    set: &Set,
+    (rows, cols): (usize, usize),
+    places: &[(usize, usize)],
+) -> Levels {
+    let factors = factors(random, set);
+    let mut levels: Levels = core::array::from_fn(|_| vec![0.0; rows * cols]);
+    let slope = random.pick(&[0.0, 0.1, 0.4]);
+    for &(row, col) in places {
+        let sign = random.pick(&[1.0, -1.0]);
+        for place in 0..9 {
+            let (row, col) = (row + place / 3, col + place % 3);
+            let tall = match place {
+                4 => random.between(0.5, 1.0),
+                _ => random.between(-0.2, 1.0) * slope,
+            };
+            if (1..=rows).contains(&row) && (1..=cols).contains(&col) {
+                let pixel = (col - 1) * rows + row - 1;
+                for (level, factor) in levels.iter_mut().zip(factors) {
+                    level[pixel] += (f64::from(tall * sign) * factor) as f32;
+                }
+            }
+        }
+    }
+    levels
+}
+
+/// A pattern in each level by a profile, with some noise.
+fn through_levels(random: &mut Random, set: &Set, pattern: &[f32], size: f64) -> Levels {
+    let factors = factors(random, set);
+    let grain = random.pick(&[0.0, 0.0, 1e-3, 0.1]);
+    core::array::from_fn(|level| {
+        let factor = factors[level];
         let shaken = |&value: &f32| {
             (f64::from(value) * factor) as f32 + random.between(-grain * size, grain * size)
         };
@@ -298,13 +370,18 @@ pub(crate) fn resize(random: &mut Random, levels: &mut Levels) {
 }
 
 /// Lost pixels: near one chosen pixel, at one of its places or just outside, in one level.
-fn lose(random: &mut Random, rows: usize, cols: usize, levels: &mut Levels) {
+pub(crate) fn lose(
+    random: &mut Random,
+    (rows, cols): (usize, usize),
+    levels: &mut Levels,
+    mut chosen: impl FnMut(&mut Random) -> (usize, usize),
+) {
     let places = near_places();
     for _ in 0..random.pick(&[1, 1, 2, 5, 20]) {
-        let centre = (random.below(rows) as isize, random.below(cols) as isize);
+        let centre = chosen(random);
         let (down, right) = random.pick(&places);
-        let row = (centre.0 + down).clamp(0, rows as isize - 1) as usize;
-        let col = (centre.1 + right).clamp(0, cols as isize - 1) as usize;
+        let row = (centre.0 as isize + down).clamp(0, rows as isize - 1) as usize;
+        let col = (centre.1 as isize + right).clamp(0, cols as isize - 1) as usize;
         let lost = random.pick(&[
             f32::NAN,
             f32::INFINITY,
@@ -323,7 +400,8 @@ pub fn any(random: &mut Random, set: &Set, rows: usize, cols: usize) -> Levels {
         resize(random, &mut levels);
     }
     if rows * cols > 0 && random.once_in(4) {
-        lose(random, rows, cols, &mut levels);
+        let any = |random: &mut Random| (random.below(rows), random.below(cols));
+        lose(random, (rows, cols), &mut levels, any);
     }
     levels
 }

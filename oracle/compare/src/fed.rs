@@ -11,7 +11,7 @@ use subject::archive::Archive;
 use subject::{Reply, Subject, difference, made_of};
 
 /// The families whose maps are fed.
-const FAMILIES: [&str; 8] = [
+pub const FAMILIES: [&str; 8] = [
     "list", "detect", "sized", "wide", "steep", "blanks", "limits", "raw",
 ];
 
@@ -70,7 +70,7 @@ impl Seen {
 }
 
 /// The scene of a case that detects, with levels of its own length.
-fn fed_scene(family: &str, seed: u64, one: &plan::Numbered) -> Option<Scene> {
+pub fn fed_scene(family: &str, seed: u64, one: &plan::Numbered) -> Option<Scene> {
     let scene = match &one.case {
         Case::FromRaw { scene, pixels } => made_of(&mut Judge::sound(), scene, pixels)?.ok(),
         _ => scene_of(family, seed, one),

@@ -3,8 +3,8 @@
 use cases::levels::{FILL, TAPS, WIDEST};
 use cases::records::SPOT;
 use cases::{Raw, Scene, Set, Start};
-use judge::{Answer, Kernel, Logs, Map, Pass, RawMap, Rules, feed, inner, levels, steps};
-use subject::{Correction, Fed, Lent, Reply, Subject};
+use judge::{Answer, Kernel, Logs, Map, Pass, RawMap, Rules, feed, inner, levels, scene, steps};
+use subject::{Correction, Fed, Lent, Reply, Subject, Tiling};
 
 /// The judge under given rules, by its reference or its streaming pass.
 #[derive(Clone, Copy)]
@@ -243,6 +243,10 @@ impl Subject for Judge {
         Some(Fed { number, value })
     }
 
+    fn scene(&mut self, given: &Start, levels: [&[f32]; 4], lent: Tiling<'_>) -> Option<Fed> {
+        Some(cut_scene(scene::CUT, given, levels, lent))
+    }
+
     fn inner(&mut self, function: &str, set: &Set, words: &[f32]) -> Option<Vec<f32>> {
         let set = set_of(set);
         helper(function, words)
@@ -250,6 +254,25 @@ impl Subject for Judge {
             .or_else(|| scale_fit(self.rules, function, &set, words))
             .or_else(|| profile(self.rules, function, &set, words))
     }
+}
+
+/// The judge's answer to a scene that is cut so.
+pub fn cut_scene(cut: scene::Cut, given: &Start, levels: [&[f32]; 4], lent: Tiling<'_>) -> Fed {
+    let map = Map {
+        thresholds: given.thresholds.into(),
+        rows: given.rows,
+        cols: given.cols,
+        octave: given.octave,
+        levels,
+    };
+    let call = scene::Call {
+        record: &given.record,
+        map,
+        slices: lent.slices,
+        out: lent.out,
+    };
+    let (number, value) = scene::scene(cut, call);
+    Fed { number, value }
 }
 
 fn bit(value: bool) -> f32 {

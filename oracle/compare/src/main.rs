@@ -14,12 +14,15 @@ mod plan;
 #[cfg(feature = "probe")]
 mod probed;
 mod runs;
+#[cfg(feature = "archive")]
+mod scenes;
 mod search;
 #[cfg(feature = "archive")]
 mod soak;
 #[cfg(feature = "probe")]
 mod steps;
 mod tally;
+mod tiles;
 
 use cases::{Case, Knob, expand, turn};
 use judge::Pass;
@@ -37,6 +40,8 @@ const USE: &str = "use: compare own [SEED [TIMES]]
      compare archive SEED TIMES               (built with the feature `archive`; 2,000,000 corrections a time beside the families)
      compare fed SEED TIMES                   (built with the feature `archive`; every map of the families, column by column)
      compare forged SEED TIMES                (built with the feature `archive`; 1,500,000 calls a time on forged states)
+     compare scenes SEED TIMES                (built with the feature `archive`; the family, and every fourth map as a scene)
+     compare tiles SEED TIMES                 (built with the feature `archive`; 2,000 small scenes a time in small tiles)
      compare soak SEED MAPS [FIRST]           (built with the feature `archive`; from the map of number FIRST on)
      compare probe SEED CASES_A_FUNCTION      (built with the feature `probe`)
      compare steps SEED [EVERY]               (built with the feature `probe`; every 256th pattern where EVERY is not given)
@@ -47,6 +52,10 @@ const USE: &str = "use: compare own [SEED [TIMES]]
 
 /// The seed of the bounded run and of the stored list.
 const SEED: u64 = 1;
+
+/// Small scenes cut into tiles in the bounded run.
+#[cfg(feature = "archive")]
+const CUT: usize = 2000;
 
 /// Calls on forged states in the bounded run.
 #[cfg(feature = "archive")]
@@ -73,6 +82,15 @@ fn main() -> ExitCode {
         Some("fed") => fed::run(number(1, SEED), number(2, 1) as usize),
         #[cfg(feature = "archive")]
         Some("forged") => forged::run(number(1, SEED), number(2, 1) as usize * FORGED),
+        #[cfg(feature = "archive")]
+        Some("scenes") => scenes::run(number(1, SEED), number(2, 1) as usize),
+        #[cfg(feature = "archive")]
+        Some("tiles") => tiles::run(
+            "tiles",
+            number(1, SEED),
+            number(2, 1) as usize * CUT,
+            &mut subject::archive::Archive::default(),
+        ),
         #[cfg(feature = "archive")]
         Some("soak") if words.len() > 2 => soak::run(
             number(1, SEED),
@@ -115,6 +133,13 @@ fn own(seed: u64, times: usize) -> bool {
         times,
         &mut Judge::sound(),
     );
+    sound &= own::untiled(seed, times);
+    sound &= tiles::run(
+        "small-tiles-list-what-the-scene-lists",
+        seed,
+        400 * times,
+        &mut Judge::sound(),
+    );
     own::logarithms(seed, times);
     own::taps(seed, times);
     sound
@@ -132,6 +157,7 @@ fn tally(seed: u64, times: usize) -> bool {
                 Case::Fed { .. } => {
                     answer(tally.feeds.entry(family.into()).or_default(), &one.case)
                 }
+                Case::Tiled { .. } => answer(&mut tally.scenes, &one.case),
                 case => answer(&mut judge, case),
             };
             tally.add_returns(&judge::returns());
@@ -164,6 +190,8 @@ fn tally(seed: u64, times: usize) -> bool {
     let apart = (!apart.is_empty()).then(|| format!("no edge parts {apart:?}"));
     let unfed = tally.answers_not_reached();
     let unfed = (!unfed.is_empty()).then(|| format!("no feed answers {unfed:?}"));
+    let untiled = tally.scenes.not_reached();
+    let untiled = (!untiled.is_empty()).then(|| format!("no scene answers {untiled:?}"));
     own::told(
         "every-gate-rejects",
         fault,
@@ -193,43 +221,54 @@ fn tally(seed: u64, times: usize) -> bool {
             unfed,
             "a start's 0, 1, 3, 4, 6 and 8; a column's 0, 2, 6 and 9",
         )
+        & own::told(
+            "every-answer-of-a-scene-is-reached",
+            untiled,
+            "0, 2, 3, 4, 8 and 10; 6 after no tile and after some; a tile that is detected twice",
+        )
 }
 
-/// A subject against the judge.
+/// A subject against the judge: every family but the scenes, which `compare scenes` has.
 fn run(seed: u64, times: usize, subject: &mut dyn Subject) -> bool {
-    let mut judge = Judge::sound();
-    let mut all_sound = true;
-    for family in plan::families() {
-        let begun = Instant::now();
-        let (mut compared, mut differing, mut fault) = (0, 0, None);
-        plan::each(family, seed, times, |one| {
-            let Some(given) = answer(subject, &one.case) else {
-                return;
-            };
-            let sound = answer(&mut judge, &one.case).unwrap_or_default();
-            compared += 1;
-            if sound != given {
-                differing += 1;
-                let knob = one.knob.map_or(String::new(), |k| {
-                    format!(" {} {:08x}", k.place, k.value.to_bits())
-                });
-                let told = || {
-                    format!(
-                        "{family} {seed} {}{knob}: {}",
-                        one.number,
-                        difference(&sound, &given)
-                    )
-                };
-                fault.get_or_insert_with(told);
-            }
-        });
-        if compared > 0 {
-            let seconds = begun.elapsed().as_secs_f64();
-            let seen = format!("{compared} cases, {differing} differ, {seconds:.1} s");
-            all_sound &= own::told(&format!("compare-{family}"), fault, &seen);
-        }
+    let mut sound = true;
+    for name in plan::families().filter(|&name| name != "scenes") {
+        sound &= family(name, seed, times, subject);
     }
-    all_sound
+    sound
+}
+
+/// One family: a subject against the judge; true where it offers none of it.
+fn family(family: &'static str, seed: u64, times: usize, subject: &mut dyn Subject) -> bool {
+    let mut judge = Judge::sound();
+    let begun = Instant::now();
+    let (mut compared, mut differing, mut fault) = (0, 0, None);
+    plan::each(family, seed, times, |one| {
+        let Some(given) = answer(subject, &one.case) else {
+            return;
+        };
+        let sound = answer(&mut judge, &one.case).unwrap_or_default();
+        compared += 1;
+        if sound != given {
+            differing += 1;
+            let knob = one.knob.map_or(String::new(), |k| {
+                format!(" {} {:08x}", k.place, k.value.to_bits())
+            });
+            let told = || {
+                format!(
+                    "{family} {seed} {}{knob}: {}",
+                    one.number,
+                    difference(&sound, &given)
+                )
+            };
+            fault.get_or_insert_with(told);
+        }
+    });
+    if compared == 0 {
+        return true;
+    }
+    let seconds = begun.elapsed().as_secs_f64();
+    let seen = format!("{compared} cases, {differing} differ, {seconds:.1} s");
+    own::told(&format!("compare-{family}"), fault, &seen)
 }
 
 /// The archive against the judge: the families, the runs of feeds as lists, the octave count at every side, and corrections by the million.
@@ -318,7 +357,7 @@ fn widest_of(seed: u64, number: usize, subjects: &mut [(&str, &mut dyn Subject)]
     all_sound
 }
 
-/// The streaming pass, and the archive where it is built in, against the reference; then the archive's levels of a raw map.
+/// The streaming pass, and the archive where it is built in, against the reference; then the archive's levels of a raw map, and its scene of four tiles.
 fn widest(seed: u64) -> bool {
     let mut streaming = Judge::streaming();
     #[cfg(feature = "archive")]
@@ -329,7 +368,9 @@ fn widest(seed: u64) -> bool {
             0,
             &mut [("streaming", &mut streaming), ("archive", &mut archive)],
         );
-        widest_of(seed, 1, &mut [("levels", &mut archive)]) & spots
+        widest_of(seed, 1, &mut [("levels", &mut archive)])
+            & widest_of(seed, 2, &mut [("scene", &mut archive)])
+            & spots
     }
     #[cfg(not(feature = "archive"))]
     widest_of(seed, 0, &mut [("streaming", &mut streaming)])

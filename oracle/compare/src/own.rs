@@ -38,6 +38,41 @@ pub fn scene_of(family: &str, seed: u64, one: &plan::Numbered) -> Option<Scene> 
     }
 }
 
+/// The list of a map of any sides, spared of blank columns, against detection's.
+pub fn untiled(seed: u64, times: usize) -> bool {
+    let (mut maps, mut spots, mut fault) = (0, 0, None);
+    for family in ["list", "detect", "sized", "wide", "steep", "limits"] {
+        plan::each(family, seed, times, |one| {
+            let Some(scene) = scene_of(family, seed, &one) else {
+                return;
+            };
+            let (reply, list) = whole(Judge::sound(), &scene);
+            if !matches!(reply, Some(Reply::Done(_))) {
+                return;
+            }
+            let found = judge::scene::untiled(&set_of(&scene.set), map_of(&scene), None);
+            let found: Vec<u8> = found.iter().flat_map(|spot| spot.record).collect();
+            maps += 1;
+            spots += found.len() / SPOT;
+            if found != list {
+                let words = || {
+                    format!(
+                        "{family} {seed} {}: {}",
+                        one.number,
+                        difference(&list, &found)
+                    )
+                };
+                fault.get_or_insert_with(words);
+            }
+        });
+    }
+    told(
+        "a-map-of-any-sides-lists-what-detection-lists",
+        fault,
+        &format!("{maps} maps, {spots} spots"),
+    )
+}
+
 /// The streaming pass against the reference, and the published rules against document 01's, on every map.
 pub fn passes(seed: u64, times: usize) -> bool {
     let (mut maps, mut other_rules) = (0, 0);

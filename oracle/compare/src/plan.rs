@@ -4,12 +4,13 @@ use crate::judged::Judge;
 use crate::search;
 use cases::homes::{KINDS, WALK};
 use cases::levels::PAIRS;
+use cases::scenes::ROUND;
 use cases::{Case, Knob, expand, turn};
 use subject::answer;
 use subject::stored::{Entry, Kept, Section};
 
 /// Cases of a family in a bounded run and in the stored list.
-pub const COUNTS: [(&str, usize); 30] = [
+pub const COUNTS: [(&str, usize); 31] = [
     ("list", 3000),
     ("detect", 1800),
     ("join", 1200),
@@ -40,6 +41,7 @@ pub const COUNTS: [(&str, usize); 30] = [
     ("feeds", 640),
     ("starts", 32 * 6 * 5),
     ("forged", 3600),
+    ("scenes", ROUND),
 ];
 
 /// Searches one case's edges: its seed, its number, and how often to try.
@@ -103,7 +105,7 @@ pub fn section(family: &str, seed: u64) -> Section {
         entries.push(Entry {
             number: one.number,
             knob: one.knob,
-            kept: Kept::of(&sound),
+            kept: Kept::of(family, &sound),
         });
     });
     Section {

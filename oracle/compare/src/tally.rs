@@ -6,10 +6,11 @@ use crate::search::{Kind, kind};
 use cases::causes::STATISTIC;
 use cases::levels::TAPS;
 use cases::records::SPOT;
+use cases::scenes::{ONCE, RECORD};
 use cases::{Case, Scene, Start};
 use judge::{Logs, levels};
 use std::collections::BTreeMap;
-use subject::{Fed, Lent, Subject, made_of};
+use subject::{Fed, Lent, Subject, Tiling, made_of};
 
 /// Counts over a run.
 #[derive(Default)]
@@ -27,6 +28,72 @@ pub struct Tally {
     pairs: BTreeMap<(&'static str, [Kind; 2]), usize>,
     side: Option<Kind>,
     pub feeds: BTreeMap<String, Fedness>,
+    pub scenes: Scenes,
+}
+
+/// What scenes answered, by its number: of 6 how many after so many tiles; the records of scenes that were taken, the most tiles that had some, and the tiles
+/// that are detected twice for their number.
+#[derive(Default)]
+pub struct Scenes {
+    answers: [usize; 11],
+    short: BTreeMap<u64, usize>,
+    records: usize,
+    tiles: usize,
+    twice: usize,
+}
+
+/// The judge's scenes, counted.
+impl Subject for Scenes {
+    fn name(&self) -> String {
+        Judge::sound().name()
+    }
+
+    fn scene(&mut self, given: &Start, levels: [&[f32]; 4], lent: Tiling<'_>) -> Option<Fed> {
+        let Tiling { slices, out } = lent;
+        let written = Tiling {
+            slices,
+            out: &mut *out,
+        };
+        let fed = Judge::sound().scene(given, levels, written)?;
+        self.answers[fed.number as usize] += 1;
+        if fed.number == 6 {
+            *self.short.entry(fed.value).or_default() += 1;
+        }
+        if fed.number == 0 {
+            self.add(&out[..RECORD * fed.value as usize]);
+        }
+        Some(fed)
+    }
+}
+
+impl Scenes {
+    /// Counts the records of a scene, tile by tile.
+    fn add(&mut self, records: &[u8]) {
+        let records: Vec<&[u8]> = records.chunks_exact(RECORD).collect();
+        let tiles: Vec<_> = records
+            .chunk_by(|one, next| one[..4] == next[..4])
+            .collect();
+        self.records += records.len();
+        self.tiles = self.tiles.max(tiles.len());
+        self.twice += tiles.iter().filter(|tile| tile.len() > ONCE).count();
+    }
+
+    /// The answers that no scene has.
+    pub fn not_reached(&self) -> Vec<&'static str> {
+        let of_number = |number: usize| self.answers[number] > 0;
+        let all = [
+            ("0", of_number(0)),
+            ("2", of_number(2)),
+            ("3", of_number(3)),
+            ("4", of_number(4)),
+            ("8", of_number(8)),
+            ("10", of_number(10)),
+            ("6 after no tile", self.short.contains_key(&0)),
+            ("6 after some", self.short.len() > 1),
+            ("more spots than are listed at once", self.twice > 0),
+        ];
+        all.iter().filter(|one| !one.1).map(|one| one.0).collect()
+    }
 }
 
 /// What the feeds of a family answered: starts and columns by their number, and the columns that listed records, with how many.
@@ -291,6 +358,17 @@ impl Tally {
                 fed.both
             );
         }
+        let Scenes {
+            answers,
+            short,
+            records,
+            tiles,
+            twice,
+        } = &self.scenes;
+        println!("scenes by their answer, 0 to 10: {answers:?}; 6 after so many tiles: {short:?}");
+        println!(
+            "scenes list {records} records, in {tiles} tiles at most; {twice} tiles are detected twice"
+        );
         for (place, count) in &self.returns {
             println!("returns, {place}: {count}");
         }

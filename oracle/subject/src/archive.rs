@@ -2,7 +2,7 @@
 //! that page before every buffer and then behind it, and both must answer and leave the same.
 
 use crate::guarded::{Room, Side};
-use crate::{Correction, Fed, Lent, Reply, Subject};
+use crate::{Correction, Fed, Lent, Reply, Subject, Tiling, scene};
 use cases::{Raw, Scene, Set, Start};
 use core::fmt::Debug;
 use uramsheg::{Map, Refusal, Thresholds, raw};
@@ -16,6 +16,43 @@ pub struct Archive {
     raw: Room,
     out: Room,
     feeds: [FeedRooms; 2],
+    slices: [Room; 4],
+}
+
+impl Archive {
+    /// A scene's call on copies beside the page, with the page before them by the wrapper, with the page behind them by the C function; what it leaves goes
+    /// back into what was lent.
+    fn tiled(
+        &mut self,
+        side: Side,
+        given: &Start,
+        levels: [&[f32]; 4],
+        lent: &mut Tiling<'_>,
+    ) -> Fed {
+        let set = self.set.lend(side, &given.record);
+        let shown = lend_four(&mut self.levels, side, levels);
+        let slices = lent.slices.each_ref().map(|slice| &**slice);
+        let mut left = Tiling {
+            slices: lend_four(&mut self.slices, side, slices),
+            out: self.out.lend(side, lent.out),
+        };
+        let call = match side {
+            Side::Before => scene::wrapped,
+            Side::Behind => scene::called,
+        };
+        let seen = shown.each_ref().map(|level| &**level);
+        let written = left.slices.each_mut().map(|slice| &mut **slice);
+        let fed = call(set, given, seen, written, left.out);
+        assert!(
+            four_bytes(&shown) == levels.map(bytes),
+            "a level was written"
+        );
+        for (slice, left) in lent.slices.iter_mut().zip(left.slices) {
+            slice.copy_from_slice(left);
+        }
+        lent.out.copy_from_slice(left.out);
+        fed
+    }
 }
 
 /// What a feed's calls are lent on one side of the page.
@@ -48,6 +85,17 @@ impl FeedRooms {
             "a given column was written"
         );
         (fed, left)
+    }
+}
+
+/// Five thresholds by their names.
+pub(crate) fn thresholds_of([peak, sigma, ratio, low, high]: [f32; 5]) -> Thresholds {
+    Thresholds {
+        peak,
+        sigma,
+        ratio,
+        low,
+        high,
     }
 }
 
@@ -197,14 +245,7 @@ impl Subject for Archive {
     }
 
     fn detect(&mut self, scene: &Scene, out: &mut [u8]) -> Option<Reply> {
-        let [peak, sigma, ratio, low, high] = scene.thresholds;
-        let thresholds = Thresholds {
-            peak,
-            sigma,
-            ratio,
-            low,
-            high,
-        };
+        let thresholds = thresholds_of(scene.thresholds);
         let record = scene.set.record();
         Some(both_sides(out, |side, left| {
             let set = self.set.lend(side, &record);
@@ -330,14 +371,7 @@ impl Subject for Archive {
         ring: [&[f32]; 4],
         state: &mut [u8],
     ) -> Option<Result<(), u32>> {
-        let [peak, sigma, ratio, low, high] = start.thresholds;
-        let thresholds = Thresholds {
-            peak,
-            sigma,
-            ratio,
-            low,
-            high,
-        };
+        let thresholds = thresholds_of(start.thresholds);
         let (rows, cols, octave) = (start.rows, start.cols, start.octave);
         Some(both_sides(state, |side, left| {
             let set = self.set.lend(side, &start.record);
@@ -374,6 +408,23 @@ impl Subject for Archive {
         for (slice, left) in lent.ring.into_iter().zip(left.ring) {
             slice.copy_from_slice(left);
         }
+        Some(fed)
+    }
+
+    fn scene(&mut self, given: &Start, levels: [&[f32]; 4], mut lent: Tiling<'_>) -> Option<Fed> {
+        let mut slices = lent.slices.each_ref().map(|slice| slice.to_vec());
+        let mut out = lent.out.to_vec();
+        let mut other = Tiling {
+            slices: slices.each_mut().map(Vec::as_mut_slice),
+            out: &mut out,
+        };
+        let one = self.tiled(Side::Before, given, levels, &mut other);
+        let fed = self.tiled(Side::Behind, given, levels, &mut lent);
+        assert_eq!(one, fed, "the answer depends on where the buffers stand");
+        assert!(
+            four_bytes(&other.slices) == four_bytes(&lent.slices) && other.out == lent.out,
+            "what is written depends on where the buffers stand"
+        );
         Some(fed)
     }
 }

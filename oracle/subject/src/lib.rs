@@ -11,6 +11,8 @@ pub mod piped;
 #[cfg(feature = "probe")]
 pub mod probe;
 pub mod process;
+#[cfg(feature = "archive")]
+mod scene;
 pub mod stored;
 
 /// An answer of detection or the join: a count, or a refusal with its number and index.
@@ -27,17 +29,33 @@ pub struct Correction {
     pub cause: u8,
 }
 
-/// An answer of a feed's column: 0 or a refusal's number, and the value beside it.
+/// An answer of a feed's column or of a whole scene: 0 or a refusal's number, and the value beside it.
 #[derive(Clone, Copy, Debug, PartialEq, Eq)]
 pub struct Fed {
     pub number: u32,
     pub value: u64,
 }
 
+impl Fed {
+    fn told(self) -> String {
+        match self {
+            Fed { number: 0, value } => format!("done {value}:"),
+            Fed { number, value: 0 } => format!("refused {number}:"),
+            Fed { number, value } => format!("refused {number} with {value}:"),
+        }
+    }
+}
+
 /// What a feed's column is lent, to be written.
 pub struct Lent<'a> {
     pub state: &'a mut [u8],
     pub ring: [&'a mut [f32]; 4],
+    pub out: &'a mut [u8],
+}
+
+/// What a whole scene is lent, to be written.
+pub struct Tiling<'a> {
+    pub slices: [&'a mut [f32]; 4],
     pub out: &'a mut [u8],
 }
 
@@ -125,6 +143,11 @@ pub trait Subject {
         None
     }
 
+    /// A whole scene by tiles.
+    fn scene(&mut self, _given: &Start, _levels: [&[f32]; 4], _lent: Tiling<'_>) -> Option<Fed> {
+        None
+    }
+
     /// An inner function on words: a bool is 1.0 or 0.0, an absent number is no word, an absent statistic minus the number of its cause.
     fn inner(&mut self, _function: &str, _set: &Set, _words: &[f32]) -> Option<Vec<f32>> {
         None
@@ -155,6 +178,7 @@ pub fn answer(subject: &mut dyn Subject, case: &Case) -> Option<Vec<u8>> {
         Case::Levels { .. } => levelled(subject, case),
         Case::FromRaw { scene, pixels } => from_raw(subject, scene, pixels),
         Case::Fed { feeds, given } => fed(subject, feeds, given),
+        Case::Tiled { .. } => tiled(subject, case),
         Case::Inner {
             function,
             set,
@@ -272,11 +296,7 @@ fn give(
     for &room in &given.rooms {
         let mut out = vec![given.fill; room];
         let fed = take_column(subject, feed, given, &mut out)?;
-        bytes.extend(match fed {
-            Fed { number: 0, value } => format!("done {value}:").into_bytes(),
-            Fed { number, value: 0 } => format!("refused {number}:").into_bytes(),
-            Fed { number, value } => format!("refused {number} with {value}:").into_bytes(),
-        });
+        bytes.extend(fed.told().into_bytes());
         bytes.extend(&feed.state);
         let pixels = feed.ring.iter().flatten();
         bytes.extend(pixels.flat_map(|pixel| pixel.to_le_bytes()));
@@ -305,6 +325,59 @@ pub fn take_column(
         out,
     };
     subject.feed_column(given.columns.each_ref().map(Vec::as_slice), lent)
+}
+
+/// A whole scene: of each call the reply, the output and the slices.
+fn tiled(subject: &mut dyn Subject, case: &Case) -> Option<Vec<u8>> {
+    let Case::Tiled {
+        given,
+        levels,
+        slices,
+        rooms,
+        fill,
+    } = case
+    else {
+        return None;
+    };
+    let filled = |level: usize| pattern(fill.wrapping_add(level as u32), slices[level]);
+    let mut slices: [Vec<f32>; 4] = core::array::from_fn(filled);
+    let mut bytes = Vec::new();
+    for &room in rooms {
+        let mut out = vec![*fill as u8; room];
+        let lent = Tiling {
+            slices: slices.each_mut().map(Vec::as_mut_slice),
+            out: &mut out,
+        };
+        let fed = subject.scene(given, levels.each_ref().map(Vec::as_slice), lent)?;
+        bytes.extend(fed.told().into_bytes());
+        bytes.extend(&out);
+        bytes.extend(slices.iter().flat_map(|slice| shortened(slice)));
+        if fed.number != 6 {
+            break;
+        }
+    }
+    Some(bytes)
+}
+
+/// Floats of any bits, another at each place.
+fn pattern(fill: u32, length: usize) -> Vec<f32> {
+    let bits = |place: usize| (place as u32 ^ fill).wrapping_mul(0x9e37_79b1);
+    (0..length)
+        .map(|place| f32::from_bits(bits(place)))
+        .collect()
+}
+
+/// The floats a slice may have to be kept whole in an answer.
+const SLICE: usize = 16;
+
+/// A slice's bytes, or its length and a hash of its floats' bits.
+fn shortened(slice: &[f32]) -> Vec<u8> {
+    if slice.len() <= SLICE {
+        return slice.iter().flat_map(|pixel| pixel.to_le_bytes()).collect();
+    }
+    let words = slice.iter().map(|pixel| u64::from(pixel.to_bits()));
+    let parts = [slice.len() as u64, stored::hash(words)];
+    parts.iter().flat_map(|part| part.to_le_bytes()).collect()
 }
 
 /// Levels made of a raw map, then detection on them and the join.

@@ -1,6 +1,6 @@
 //! The detector's archive of another processor: `answerer` linked with it, run as a process that answers call by call over a pipe.
 
-use crate::{Correction, Fed, Lent, Reply, Subject};
+use crate::{Correction, Fed, Lent, Reply, Subject, Tiling};
 use cases::{Raw, Scene, Set, Start};
 use std::io::{BufReader, BufWriter, Read, Write};
 use std::process::{Child, ChildStdin, ChildStdout, Command, Stdio};
@@ -232,6 +232,23 @@ impl Subject for Piped {
         let value = self.next() as u64;
         self.read(lent.state);
         lent.ring.into_iter().for_each(|slice| self.written(slice));
+        self.read(lent.out);
+        Some(Fed { number, value })
+    }
+
+    fn scene(&mut self, given: &Start, levels: [&[f32]; 4], lent: Tiling<'_>) -> Option<Fed> {
+        self.send(b"t");
+        self.bytes(&given.record);
+        self.patterns(&given.thresholds);
+        self.numbers(&[given.rows, given.cols, given.octave]);
+        levels.iter().for_each(|level| self.floats(level));
+        lent.slices.iter().for_each(|slice| self.floats(slice));
+        self.bytes(lent.out);
+        let number = self.next() as u32;
+        let value = self.next() as u64;
+        lent.slices
+            .into_iter()
+            .for_each(|slice| self.written(slice));
         self.read(lent.out);
         Some(Fed { number, value })
     }

@@ -4,8 +4,14 @@ use crate::{Subject, answer, difference};
 use cases::{Case, Knob, edges, expand, turn};
 
 const MAGIC: &[u8; 8] = b"answers1";
-/// Answers up to this length are kept whole.
-const WHOLE: usize = 24;
+
+/// Answers of a family up to this length are kept whole.
+fn whole(family: &str) -> usize {
+    match family {
+        "scenes" => 600,
+        _ => 24,
+    }
+}
 
 /// An answer as it is kept: its length, and its bytes or their hash.
 #[derive(Clone, Debug, PartialEq, Eq)]
@@ -15,10 +21,12 @@ pub struct Kept {
 }
 
 impl Kept {
-    pub fn of(answer: &[u8]) -> Kept {
-        let bytes = match answer.len() {
-            0..=WHOLE => answer.to_vec(),
-            _ => hash(answer).to_le_bytes().to_vec(),
+    /// A family's answer.
+    pub fn of(family: &str, answer: &[u8]) -> Kept {
+        let hashed = || hash(answer.iter().copied().map(u64::from)).to_le_bytes();
+        let bytes = match answer.len() > whole(family) {
+            true => hashed().to_vec(),
+            false => answer.to_vec(),
         };
         Kept {
             length: answer.len(),
@@ -28,7 +36,7 @@ impl Kept {
 
     /// What is known of where an answer parts from this one.
     pub fn against(&self, given: &[u8]) -> String {
-        if self.length <= WHOLE {
+        if self.length == self.bytes.len() {
             return difference(&self.bytes, given);
         }
         format!(
@@ -72,11 +80,11 @@ impl Section {
     }
 }
 
-/// FNV-1a over 64 bits, stirred at the end.
-fn hash(bytes: &[u8]) -> u64 {
+/// FNV-1a over 64 bits, of bytes or of longer words, stirred at the end.
+pub(crate) fn hash(words: impl Iterator<Item = u64>) -> u64 {
     let mut value = 0xcbf2_9ce4_8422_2325u64;
-    for &byte in bytes {
-        value = (value ^ u64::from(byte)).wrapping_mul(0x0000_0100_0000_01b3);
+    for word in words {
+        value = (value ^ word).wrapping_mul(0x0000_0100_0000_01b3);
     }
     value = (value ^ (value >> 30)).wrapping_mul(0xbf58_476d_1ce4_e5b9);
     value ^ (value >> 31)
@@ -135,9 +143,9 @@ impl<'a> Reader<'a> {
         }
     }
 
-    fn entry(&mut self, edge: bool) -> Option<Entry> {
+    fn entry(&mut self, family: &str) -> Option<Entry> {
         let number = self.number()? as usize;
-        let knob = match edge {
+        let knob = match edges::EDGES.contains(&family) {
             true => {
                 let place = self.number()? as u32;
                 let value = f32::from_le_bytes(self.take(4)?.try_into().ok()?);
@@ -147,7 +155,7 @@ impl<'a> Reader<'a> {
         };
         let length = self.number()? as usize;
         let bytes = self
-            .take(if length <= WHOLE { length } else { 8 })?
+            .take(if length <= whole(family) { length } else { 8 })?
             .to_vec();
         Some(Entry {
             number,
@@ -159,11 +167,10 @@ impl<'a> Reader<'a> {
     fn section(&mut self) -> Option<Section> {
         let length = self.number()? as usize;
         let family = String::from_utf8(self.take(length)?.to_vec()).ok()?;
-        let edge = edges::EDGES.contains(&family.as_str());
         let seed = self.number()?;
         let count = self.number()?;
         let entries = (0..count)
-            .map(|_| self.entry(edge))
+            .map(|_| self.entry(&family))
             .collect::<Option<_>>()?;
         Some(Section {
             family,
@@ -208,7 +215,7 @@ pub fn replay(section: &Section, subject: &mut dyn Subject) -> Outcome {
             continue;
         };
         outcome.offered += 1;
-        if Kept::of(&given) != entry.kept {
+        if Kept::of(&section.family, &given) != entry.kept {
             outcome.differing += 1;
             let told = || format!("{}: {}", section.label(entry), entry.kept.against(&given));
             outcome.first.get_or_insert_with(told);

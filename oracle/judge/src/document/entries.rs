@@ -100,7 +100,7 @@ fn nearest(place: f32) -> u16 {
 }
 
 /// The spot record, its corrected sigma, its home pixel, whether a size was given, and why none was.
-fn sized(spot: &[u8]) -> [u8; SIZED] {
+pub fn sized(spot: &[u8]) -> [u8; SIZED] {
     let [x, y, sigma, _, samples @ ..] = record::floats(spot);
     let size = causes::size(|| offered::correct(&samples, sigma, record::is_max(spot)));
     let mut bytes = [0; SIZED];

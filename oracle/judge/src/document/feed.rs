@@ -1,11 +1,11 @@
 //! The feed of columns, document 02's No. 6: the refusals in their order, then the published reference on a map of which five columns are known.
 
+use crate::columns::only;
 use crate::entries::{LONGEST, any_nan};
 use crate::here::with;
 use crate::record::{SPOT, Spot, laid};
 use crate::run::offered;
 use crate::{Logs, Map, Pass, Rules, Set, Thresholds};
-use core::cell::Cell;
 use core::ops::Range;
 
 /// The bytes of a state.
@@ -19,18 +19,6 @@ const ROWS: usize = 548;
 const COLS: usize = 552;
 const POSITION: usize = 556;
 const OCTAVE: usize = 560;
-
-thread_local! {
-    static ONLY: Cell<Option<usize>> = const { Cell::new(None) };
-}
-
-/// The columns that the reference goes through: all that it would, or the one that a feed judges.
-pub fn judged_of(columns: Range<usize>) -> Range<usize> {
-    match ONLY.get() {
-        Some(only) => columns.start.max(only)..columns.end.min(only + 1),
-        None => columns,
-    }
-}
 
 /// What a start is given beside the state; of the ring, which it never writes, the four lengths.
 #[derive(Clone, Copy, Debug)]
@@ -170,10 +158,10 @@ fn known(state: &State, call: &Call, level: usize) -> Vec<f32> {
 
 /// The spots of one column of a map, by the reference; `alone` spares it the other columns.
 pub fn spots_of(set: &Set, map: Map, column: usize, alone: bool) -> Vec<Vec<u8>> {
-    let before = ONLY.replace(alone.then_some(column));
     let find = || offered::detect(Pass::Reference, map).1;
-    let spots = with(Rules::Document, Logs::Steps, set, find);
-    ONLY.set(before);
+    let spots = only(alone.then(|| vec![column]), || {
+        with(Rules::Document, Logs::Steps, set, find)
+    });
     let of_column = |spot: &&Spot| spot.key % map.cols == column;
     let spots = spots.iter().filter(of_column);
     spots.map(|spot| laid(spot).to_vec()).collect()
