@@ -1,6 +1,5 @@
 // The tiles of a scene, one after the other.
 ghost use mathlib.Core.Path.{_≡_};
-ghost use Prim.Native.Nat.{_*_};
 ghost use lib.ListN.{length};
 ghost use Rattle.scene_checks.specs.Checks.{SceneIn};
 ghost use Rattle.turn.specs.Turn.{sceneMaps};

@@ -15,7 +15,7 @@ use Rattle.tiles.specs.Copy.{gather}
 use Rattle.tiles.proofs.TilesLaws.{on-side}
 use Rattle.tiles.proofs.GatherLaws.{gather-same, gather-map, gather-two, side-tiles, gather-perm, gather-swap}
 use Rattle.tile.specs.Numbered.{numbered}
-use Rattle.turn.specs.Tiled.{tileMaps, tileList, across, tiles, firstTiles}
+use Rattle.turn.specs.Tiled.{tileMaps, tileList, tiles, firstTiles}
 use Rattle.seamless.specs.Untiled.{Sight, sightOf, sightWhole, untiled, sightIn, tiled}
 use Rattle.seamless.specs.Claims.{Long, Sides}
 use Rattle.seamless.proofs.Copies.{nine-agree}

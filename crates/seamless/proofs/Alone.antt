@@ -4,7 +4,7 @@ use Prim.Native.Nat.{ℕ, suc, _+_, _*_, _/_, _%_, _≤_, _<_}
 use native.Mathlib.Omega.{arith}
 use mathlib.Core.Path.{_≡_, refl, ap, subst}
 use mathlib.Core.Bool.{true, false}
-use mathlib.Core.List.{List, [], _∷_, map}
+use mathlib.Core.List.{List, [], _∷_}
 use lib.ListN.{length, take}
 use lib.Seq.{take-at, drop-at}
 use lib.Ieee.{Float}
@@ -30,7 +30,7 @@ use Rattle.tiles.specs.Copy.{gather}
 use Rattle.tiles.proofs.TilesLaws.{on-side, tile-most}
 use Rattle.tiles.proofs.GatherLaws.{gather-same}
 use Rattle.tiles.proofs.CopyLaws.{copy-long}
-use Rattle.tile.specs.Numbered.{numbered, numberedBytes, allBytes, tileBytes}
+use Rattle.tile.specs.Numbered.{numberedBytes, allBytes, tileBytes}
 use Rattle.tile.specs.Tile.{Small, foundIn}
 use Rattle.tile.proofs.ListLaws.{detects}
 use Rattle.turn.specs.Tiled.{tileCopy, tileMaps, tileList, across}

@@ -3,8 +3,7 @@ mod list; // list.rt: the tile's spot list
 mod place; // place.rt: its records, sized and numbered
 
 ghost use mathlib.Core.Path.{_≡_};
-ghost use Prim.Native.Nat.{_+_, _*_, _≤_};
-ghost use lib.ListN.{length, take};
+ghost use lib.ListN.{length};
 ghost use Rattle.tile.specs.Tile.{Small, foundIn, filling, fillOf, Fits};
 use tables::Set;
 use tables::Thresholds;
