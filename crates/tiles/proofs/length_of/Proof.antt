@@ -1,3 +1,4 @@
+-- `length_of` meets its contract.
 use native.Mathlib.Omega.{arith}
 use Rattle.tiles.specs.Tiles.{lengthOf}
 use borrow.Author.Needs.{needs}

@@ -1,3 +1,4 @@
+-- `tiles_of` meets its contract.
 use native.Mathlib.Omega.{arith}
 use Rattle.tiles.specs.Tiles.{tilesOf}
 use borrow.Author.Needs.{needs}
