@@ -16,6 +16,7 @@ use Rattle.fit.specs.Cubic.{_at_, curvatureOf}
 use Rattle.fit.specs.Prims.{Prims, Allowed}
 use Rattle.fit.specs.declared.Band.{Band}
 use Rattle.float.proofs.Finite.{sum-finite, product-finite}
+use Rattle.moves.proofs.MovesLaws.{kept-nearby}
 use Rattle.refine.specs.Refine.{refineBy}
 use Rattle.refine.specs.declared.Spot.{Spot}
 use Rattle.refine.specs.declared.Refined.the-variants.{Accepted}
@@ -83,4 +84,6 @@ module _ (P : ℕ → Prims) (allowed : Allowed (P 4)) (s : Set) (th : Threshold
         index = subst (λ (n : ℕ). (n ≡ 1) ⊎ (n ≡ 2)) (sym (moved .index)) (index-inner (s .sigmas) sigma);
         polarity = polarity-short (spot .max);
         spare = refl;
+        dx = rw (moved .dx-is) (kept-nearby _ (moved .x-passes));
+        dy = rw (moved .dy-is) (kept-nearby _ (moved .y-passes));
       })

@@ -18,8 +18,8 @@ use Rattle.tables.specs.declared.Thresholds.{Thresholds}
 use Rattle.refine.specs.Refine.{nearby}
 use Rattle.refine.proofs.RefineLaws.{accepted-displaced}
 use Rattle.record.specs.declared.Record.{Record}
-use Rattle.join.specs.Sized.{homeOf}
-use Rattle.join.proofs.HomeLaws.{on-side, side-under}
+use Rattle.sized.specs.Sized.{homeOf}
+use Rattle.sized.proofs.HomeLaws.{on-side, side-under}
 use Rattle.pixel.specs.declared.Frame.{Frame}
 use Rattle.pixel.specs.Verdict.{anchorOf, recordOf}
 use Rattle.pixel.specs.Rules.{Admits}

@@ -19,7 +19,7 @@ use Rattle.float.specs.Small.{finite, absOf}
 use Rattle.float.proofs.Finite.{value-finite, between-finite}
 use Rattle.float.proofs.Floats.{zero-rounds}
 use Rattle.refine.specs.Refine.{nearby}
-use Rattle.refine.proofs.RefineLaws.{nearby-bounds}
+use Rattle.moves.proofs.MovesLaws.{nearby-bounds}
 use Rattle.record.specs.Readable.{within, onSide}
 
 -- ---- a displacement that passes is at most 1 in size

@@ -3,6 +3,7 @@ pub use detect::detect;
 pub use feed::feed_column;
 pub use feed::feed_start;
 pub use join::join;
+pub use join::join_old;
 pub use levels::levels;
 pub use pyramid::downsample;
 pub use pyramid::octave_count;

@@ -7,7 +7,7 @@ ghost use mathlib.Core.List.{[], _∷_};
 ghost use Rattle.tables.specs.Refusal.{readSetOf};
 ghost use Rattle.pyramid.specs.Pyramid.{octaveCountOf};
 ghost use Rattle.face.specs.Face.{left, thresholdsOf, checkFace};
-ghost use Rattle.face_join.specs.Face.{joinFace};
+ghost use Rattle.face_join.specs.Face.{joinFace, joinOldFace};
 ghost use Rattle.face_correct.specs.Face.{sizeLeft, correctFace};
 ghost use Rattle.face_halve.specs.Face.{halvedLeft, downsampleFace};
 ghost use Rattle.face_levels.specs.Face.{levelsLeft, levelsFace};
@@ -74,6 +74,22 @@ pub extern "C" fn uramsheg_join<'a>(
         ≡ joinFace (now (set .entry)) rows cols (now (list .entry)) (now (out .entry)) ⌝ }
 {
     face_join::join(set, rows, cols, list, out, value)
+}
+
+// The same of an old list, whose records have 40 bytes and their sized ones 52.
+#[no_mangle]
+pub extern "C" fn uramsheg_join_old<'a>(
+    set: &'a [u8],
+    rows: usize,
+    cols: usize,
+    list: &'a [u8],
+    out: &mut [u8],
+    value: &mut u64,
+) -> u32
+    ensures { λ r. ⌜ left r (now (value .exit)) (now (out .exit))
+        ≡ joinOldFace (now (set .entry)) rows cols (now (list .entry)) (now (out .entry)) ⌝ }
+{
+    face_join::join_old(set, rows, cols, list, out, value)
 }
 
 // Corrects the sigma of a spot with these samples under the set in the record set. Answers 0, with the corrected sigma in corrected and 0 in cause, or the

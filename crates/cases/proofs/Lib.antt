@@ -1,3 +1,4 @@
 -- The table of worked cases holds.
 pub mod Table
 pub mod Cuts
+pub mod Moves

@@ -5,3 +5,4 @@ pub mod Raw
 pub mod Feeds
 pub mod Scenes
 pub mod Table
+pub mod Moves

@@ -1,6 +1,6 @@
 -- Document 01's map M, cases of the list that is due for it, and of its refusal. Definitions only.
 use Prim.Native.Nat.{ℕ, _+_, _*_}
-use mathlib.Core.List.{List, [], _∷_}
+use mathlib.Core.List.{List, [], _∷_, _++_}
 use lib.ListN.{replicate, set}
 use lib.Ieee.{Float, binary32, ofBits}
 use Rattle.float.specs.Num.{f0}
@@ -14,7 +14,7 @@ use Rattle.checks.specs.Checks.{detectChecks}
 use Rattle.record.specs.Layout.{recordAt, bytesOf}
 use Rattle.samples.specs.Level.{Maps, mapsOf}
 use Rattle.detect.specs.Due as dues
-use Rattle.join.specs.Sized.{sizedBytes}
+use Rattle.sized.specs.Sized.{sizedBytes}
 use Rattle.cases.specs.Case.{Case}
 
 -- a level of 9 rows and 10 cols, all 0
@@ -48,12 +48,16 @@ unfoldable pub mapM : List Float → Maps
 mapM l0 =
     mapsOf l0 (put 4 4 0xbe800000 zeros) zeros zeros (record { rows = 9; cols = 10; octave = 0 }) setT thresholdsM
 
--- the 40 bytes of map M's one spot
-unfoldable pub bytesM : List ℕ
-bytesM =
+-- the 40 bytes that map M's one spot had before displacements were kept
+unfoldable pub oldM : List ℕ
+oldM =
     0x00 ∷ 0x00 ∷ 0x90 ∷ 0x40 ∷ 0x00 ∷ 0x00 ∷ 0x80 ∷ 0x40 ∷ 0x00 ∷ 0x00 ∷ 0x00 ∷ 0x40 ∷ 0x00 ∷ 0x00 ∷ 0x80 ∷ 0x40
     ∷ 0x00 ∷ 0x00 ∷ 0x80 ∷ 0xbf ∷ 0x00 ∷ 0x00 ∷ 0x80 ∷ 0x40 ∷ 0x00 ∷ 0x00 ∷ 0x00 ∷ 0x00 ∷ 0x00 ∷ 0x00 ∷ 0x00 ∷ 0x00
     ∷ 0x2c ∷ 0x00 ∷ 0x00 ∷ 0x00 ∷ 0x00 ∷ 0x01 ∷ 0x01 ∷ 0x00 ∷ []
+
+-- its 48 bytes: these, then delta x 0.5 and delta y 0
+unfoldable pub bytesM : List ℕ
+bytesM = oldM ++ (0x00 ∷ 0x00 ∷ 0x00 ∷ 0x3f ∷ 0x00 ∷ 0x00 ∷ 0x00 ∷ 0x00 ∷ [])
 
 -- the same as a minimum
 unfoldable pub minimumM : List ℕ

@@ -29,7 +29,7 @@ sceneCase rows cols n octave th s t due = record { given = ofChecked (firstOf (s
 unfoldable pub spotAt : ℕ → ℕ → List Float
 spotAt pattern col = put 4 col pattern zeros
 
--- the spot's 52 bytes in such a tile: map M's, with the tile's own key, then its size, home and the rest
+-- the spot's 60 bytes in such a tile: map M's, with the tile's own key, then its size, home and the rest
 unfoldable pub cutM : List ℕ
 cutM = set bytesM 32 0x28 ++ (0xf3 ∷ 0x04 ∷ 0x35 ∷ 0x40 ∷ 0x04 ∷ 0x00 ∷ 0x05 ∷ 0x00 ∷ 0x01 ∷ 0x00 ∷ 0x00 ∷ 0x00 ∷ [])
 
@@ -50,16 +50,16 @@ homeCase col pattern due = record { given = nearestOf (ofInt binary32 (pos col) 
 
 -- map M in two tiles: its spot is the first one's, with the tile's own key
 unfoldable pub firstCut : Case
-firstCut = cutCase 4 56 (0 ∷ 1 ∷ 0 ∷ 0 ∷ 0 ∷ 0 ∷ cutM)
+firstCut = cutCase 4 64 (0 ∷ 1 ∷ 0 ∷ 0 ∷ 0 ∷ 0 ∷ cutM)
 
 -- a pixel to the right it is the second one's, with the same bytes but for the tile's number
 unfoldable pub secondCut : Case
-secondCut = cutCase 5 56 (0 ∷ 1 ∷ 0 ∷ 0 ∷ 1 ∷ 0 ∷ cutM)
+secondCut = cutCase 5 64 (0 ∷ 1 ∷ 0 ∷ 0 ∷ 1 ∷ 0 ∷ cutM)
 
 -- a byte short: 6 with no tile, and nothing written
 unfoldable pub firstShort : Case
-firstShort = cutCase 4 55 (6 ∷ 0 ∷ replicate 55 0)
+firstShort = cutCase 4 63 (6 ∷ 0 ∷ replicate 63 0)
 
 -- of the second tile: 6 with one tile, the empty first one counted, and nothing written
 unfoldable pub secondShort : Case
-secondShort = cutCase 5 55 (6 ∷ 1 ∷ replicate 55 0)
+secondShort = cutCase 5 63 (6 ∷ 1 ∷ replicate 63 0)

@@ -35,7 +35,7 @@ table =
     ∷ countCase 1025 6
     -- P8 under T the samples (-1,4,0,0) have the envelope min -1, max 4, sigmas 0 and 2.
     ∷ envelopeCase cubicT sigmasT (0xbf800000 ∷ 0x40800000 ∷ 0 ∷ 0 ∷ []) (0xbf800000 ∷ 0x40800000 ∷ 0 ∷ 0x40000000 ∷ [])
-    -- P9 map M: one spot, with these 40 bytes.
+    -- P9 map M: one spot, with these 48 bytes.
     ∷ mapCase levelM bytesM
     -- P10 with (2,4) of level 0 NaN: none.
     ∷ mapCase (put 2 4 0x7fc00000 levelM) []
@@ -73,7 +73,7 @@ table =
     ∷ nearestCase 0x40900000 5
     ∷ nearestCase 0x457fe7ff 4094
     ∷ nearestCase 0x457fe800 4095
-    -- Map M's spot, sized: its 40 bytes, sigma 2.828427, home row 4 and col 5 (x is 4.5), accepted.
+    -- Map M's spot, sized: its 48 bytes, sigma 2.828427, home row 4 and col 5 (x is 4.5), accepted.
     ∷ sizedCase bytesM (bytesM ++ (0xf3 ∷ 0x04 ∷ 0x35 ∷ 0x40 ∷ 0x04 ∷ 0x00 ∷ 0x05 ∷ 0x00 ∷ 0x01 ∷ 0x00 ∷ 0x00 ∷ 0x00 ∷ []))
     -- Its 21 pixels stay those around (4,4): with (4,7) of level 0 NaN it is as P9, with (4,2) there is none.
     ∷ mapCase (put 4 7 0x7fc00000 levelM) bytesM
@@ -148,11 +148,11 @@ table =
     ∷ startCase 9 10 0 (thresholdsOf 0x7fc00000 0x3f800000 0x41200000 0x3ff38cb4 0x4084cbdf) blank 45 (8 ∷ [])
     ∷ startCase 9 10 0 thresholdsM blank 44 (4 ∷ [])
     ∷ startCase 9 10 0 thresholdsM setT 44 (6 ∷ [])
-    -- Map M by columns: six list nothing, the seventh its spot, and so all ten; with an output of 39 bytes the seventh is not taken, nor any after it.
-    ∷ fedCase 40 6 (6 ∷ [])
-    ∷ fedCase 40 7 (bytesM ++ (7 ∷ []))
-    ∷ fedCase 40 10 (bytesM ++ (10 ∷ []))
-    ∷ fedCase 39 10 (6 ∷ [])
+    -- Map M by columns: six list nothing, the seventh its spot, and so all ten; with an output of 47 bytes the seventh is not taken, nor any after it.
+    ∷ fedCase 48 6 (6 ∷ [])
+    ∷ fedCase 48 7 (bytesM ++ (7 ∷ []))
+    ∷ fedCase 48 10 (bytesM ++ (10 ∷ []))
+    ∷ fedCase 47 10 (6 ∷ [])
     -- 9 once all columns have come, whatever else is wrong; then 2, also with a short ring; then 6.
     ∷ columnCase 10 10 8 44 (0 ∷ 9 ∷ [])
     ∷ columnCase 10 9 8 44 (0 ∷ 2 ∷ [])

@@ -14,6 +14,8 @@ use Rattle.fit.specs.Cubic.{_at_, hornerOf}
 use Rattle.fit.specs.Prims.{ours}
 use Rattle.fit.specs.Envelope.{endsBy, putLow, putHigh, turnOf, firstOf, secondOf, turnsOf, shapeOf, shapeBy}
 use Rattle.fit.specs.declared.Envelope.{Envelope}
+use Rattle.moves.proofs.MovesLaws.{kept-fits}
+use Rattle.refine.specs.Refine.{deltaXOf, deltaYOf}
 use Rattle.refine.proofs.RefineLaws.{accepted-displaced}
 use Rattle.record.specs.declared.Record.{Record}
 use Rattle.record.specs.Layout.{Held}
@@ -125,7 +127,7 @@ peak-fits e isMax h = cond-fits binary32 isMax _ _ (h .emax) (h .emin)
 -- ---- the record
 
 admitted-held : (m : Maps) (row col : ℕ) (isMax : Bool) (r : Record) → r .key < 2 ^ 32 → AdmitsAt m row col isMax r → Held r
-unfolding recordOf anchorOf
+unfolding recordOf anchorOf deltaXOf deltaYOf
 admitted-held m row col isMax r word a =
     let moved = accepted-displaced ours (m .set) (m .thresholds .ratio) (cubicsAt (m .set) (nineAt m row col)) _ (a .spot) (a .refinement) in
     let l = own-samples-fit m row col in
@@ -141,6 +143,8 @@ admitted-held m row col isMax r word a =
       s2 = l .s2;
       s3 = l .s3;
       key = rw made at word;
+      dx = kept-fits _ (rw (moved .dx-is) (div-fits binary32 _ _));
+      dy = kept-fits _ (rw (moved .dy-is) (div-fits binary32 _ _));
     }
 
 -- Each listed record of a map with sides to 4,096 holds only values of binary32, and its key is a word.

@@ -26,8 +26,8 @@ use Rattle.detect.specs.Due.{due}
 use Rattle.detect.specs.Detect.{Outcome, detectOf}
 use Rattle.detect.specs.declared.Answer.the-variants.{Found}
 use Rattle.detect.proofs.RefusalsLaws.{found-passed}
-use Rattle.join.specs.Sized.{sizedWidth}
-use Rattle.join.specs.Join.{firstBad, joinChecks, joined, joinOf}
+use Rattle.sized.specs.Sized.{sizedWidth}
+use Rattle.join.specs.Join.{firstBad, joinChecks, joined, joinBy}
 use Rattle.demands.specs.List.{StandsAt}
 use Rattle.demands.specs.Joined.{Joins}
 use Rattle.demands.proofs.Accepted.{join-accepts}
@@ -53,7 +53,7 @@ stands-there (r ∷ rs) (suc i) d h = stands-there rs i d (omega arith)
 -- ---- the join's checks
 
 -- none of n readable records is the first bad one
-none-bad : (rows cols : ℕ) (b : List ℕ) (n i : ℕ) → ((k : ℕ) → i ≤ k → k < i + n → readable rows cols (recordAt b k) ≡ true) → firstBad rows cols b n i ≡ i + n
+none-bad : (rows cols : ℕ) (b : List ℕ) (n i : ℕ) → ((k : ℕ) → i ≤ k → k < i + n → readable rows cols (recordAt b k) ≡ true) → firstBad false rows cols b n i ≡ i + n
 unfolding firstBad
 none-bad rows cols b zero i all = omega arith
 none-bad rows cols b (suc n) i all =
@@ -93,21 +93,21 @@ module _ (m : Maps) (out : List ℕ) (rows-most : m .frame .rows ≤ 4096) (cols
   read-readable i h = join-accepts m _ (record { place = i; there = read-back i h })
 
   -- of the join's checks only the set's and the room's are open
-  checks-open : (t : Set) (room : ℕ) → firstOf (joinChecks t (m .frame .rows) (m .frame .cols) bytes room) ≡ unless (not (good t)) BadSet (unless (ltb room (count * sizedWidth)) Room Fine)
+  checks-open : (t : Set) (room : ℕ) → firstOf (joinChecks false t (m .frame .rows) (m .frame .cols) bytes room) ≡ unless (not (good t)) BadSet (unless (ltb room (count * sizedWidth)) Room Fine)
   unfolding joinChecks firstOf unless
   checks-open t room =
       let whole : length bytes % spotWidth ≡ 0 = omega (arith, length-bytes) in
       let number : length bytes / spotWidth ≡ count = omega (arith, length-bytes) in
-      let none : firstBad (m .frame .rows) (m .frame .cols) bytes count 0 ≡ count = none-bad _ _ bytes count 0 (λ k p q. read-readable k (omega arith)) ∙ omega arith in
+      let none : firstBad false (m .frame .rows) (m .frame .cols) bytes count 0 ≡ count = none-bad _ _ bytes count 0 (λ k p q. read-readable k (omega arith)) ∙ omega arith in
       rw (le-ltb _ _ rows-most, le-ltb _ _ cols-most, eq-eqb _ _ whole, number, none, le-ltb count count (omega arith))
 
   -- and with a good set and room for the sized records they pass
-  room-enough : (t : Set) (room : ℕ) → good t ≡ true → count * sizedWidth ≤ room → firstOf (joinChecks t (m .frame .rows) (m .frame .cols) bytes room) ≡ Fine
+  room-enough : (t : Set) (room : ℕ) → good t ≡ true → count * sizedWidth ≤ room → firstOf (joinChecks false t (m .frame .rows) (m .frame .cols) bytes room) ≡ Fine
   unfolding unless
   room-enough t room is-good h = checks-open t room ∙ rw (is-good, le-ltb _ _ h)
 
   joins : Joins (m .frame .rows) (m .frame .cols) (due m) count bytes
-  unfolding joinOf joined
+  unfolding joinBy joined
   joins =
       let number : length bytes / spotWidth ≡ count = omega (arith, length-bytes) in
       record {

@@ -19,3 +19,7 @@ joinLeft o = left (joinPacked (o .answer) .number) (joinPacked (o .answer) .valu
 -- the join under the set that the record holds
 unfoldable pub joinFace : List ℕ → ℕ → ℕ → List ℕ → List ℕ → Left
 joinFace set rows cols list out = joinLeft (join.joinOf (readSetOf set .set) rows cols list out)
+
+-- the join of an old list under it
+unfoldable pub joinOldFace : List ℕ → ℕ → ℕ → List ℕ → List ℕ → Left
+joinOldFace set rows cols list out = joinLeft (join.joinOldOf (readSetOf set .set) rows cols list out)

@@ -1,7 +1,7 @@
 // The join's face: its answer as a number and a value.
 ghost use mathlib.Core.Path.{_≡_};
 ghost use Rattle.face.specs.Face.{left};
-ghost use Rattle.face_join.specs.Face.{joinPacked, joinFace};
+ghost use Rattle.face_join.specs.Face.{joinPacked, joinFace, joinOldFace};
 use join::Joined;
 
 // The number of an answer: 0, or that of the refusal.
@@ -40,6 +40,25 @@ pub fn join<'a>(
     let read = tables::read_set(set);
     let tables = read.set;
     let answer = join::join(tables, rows, cols, list, out);
+    *value = value_of(answer);
+    number_of(answer)
+}
+
+// The same of an old list, whose records have 40 bytes and their sized ones 52.
+pub fn join_old<'a>(
+    set: &'a [u8],
+    rows: usize,
+    cols: usize,
+    list: &'a [u8],
+    out: &mut [u8],
+    value: &mut u64,
+) -> u32
+    ensures { λ r. ⌜ left r (now (value .exit)) (now (out .exit))
+        ≡ joinOldFace (now (set .entry)) rows cols (now (list .entry)) (now (out .entry)) ⌝ }
+{
+    let read = tables::read_set(set);
+    let tables = read.set;
+    let answer = join::join_old(tables, rows, cols, list, out);
     *value = value_of(answer);
     number_of(answer)
 }

@@ -1,6 +1,5 @@
 -- What the proofs cite, and what the join's promise settles.
 pub mod CheckLaws
-pub mod HomeLaws
 pub mod SizedLaws
 pub mod JoinLaws
 pub mod RefusalsLaws

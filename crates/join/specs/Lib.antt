@@ -1,4 +1,4 @@
--- The join: a sized record, what the join answers and leaves, and the words of the claims about it.
-pub mod Sized
+-- The join: how the records of a list lie, what the join answers and leaves, and the words of the claims about it.
+pub mod Forms
 pub mod Join
 pub mod Claims

@@ -37,7 +37,7 @@ begins-counts {out} {r} {text} p =
     let e : r ≡ length (take r out) = p .count ∙ sym (ap length (p .bytes)) in
     (omega (arith, length-take r out), e)
 
--- ---- a buffer of 1,600 records
+-- ---- a buffer of 1,300 records
 
 module _ (b out o : List ℕ) where
   abbrev found : List Record
@@ -47,15 +47,15 @@ module _ (b out o : List ℕ) where
   unfolding detectFrom
   answer-told e = answer-same (setFrom b) (thresholdsFrom b) (rowsFrom b) (colsFrom b) (octaveFrom b) (levelFrom b 0) (levelFrom b 1) (levelFrom b 2) (levelFrom b 3) [] out ∙ sym (ap (λ (x : Outcome). x .answer) e)
 
-  -- the count, and the bytes of the first 1,600 records
-  written-told : {n : ℕ} → length out ≡ 64000 → outcome (Found n) o ≡ detectFrom b out → (n ≡ length found) × (take (min mostShown (length found) * spotWidth) o ≡ bytesOf (take mostShown found))
+  -- the count, and the bytes of the first 1,300 records
+  written-told : {n : ℕ} → length out ≡ 62400 → outcome (Found n) o ≡ detectFrom b out → (n ≡ length found) × (take (min mostShown (length found) * spotWidth) o ≡ bytesOf (take mostShown found))
   unfolding detectFrom
   written-told {n} long e =
       let w = first-written (setFrom b) (thresholdsFrom b) (rowsFrom b) (colsFrom b) (octaveFrom b) (levelFrom b 0) (levelFrom b 1) (levelFrom b 2) (levelFrom b 3) out n (sym (ap (λ (x : Outcome). x .answer) e)) in
       let bytes : take (written found out * spotWidth) o ≡ bytesOf (take (length out / spotWidth) found) = ap (λ (x : Outcome). take (written found out * spotWidth) (x .buffer)) e ∙ w .1 in
       (w .0, rw long at bytes)
 
-  lines-told : {n : ℕ} → length out ≡ 64000 → outcome (Found n) o ≡ detectFrom b out → linesIn (min mostShown n) o ≡ linesOf (take mostShown found)
+  lines-told : {n : ℕ} → length out ≡ 62400 → outcome (Found n) o ≡ detectFrom b out → linesIn (min mostShown n) o ≡ linesOf (take mostShown found)
   lines-told {n} long e =
       let w = written-told long e in
       let k : ℕ = min mostShown (length found) * spotWidth in
@@ -64,7 +64,7 @@ module _ (b out o : List ℕ) where
       ap (linesIn (min mostShown n)) parts ∙ rw count (lines-of-bytes (take mostShown found) (drop k o))
 
   -- what is printed where detection answers Found
-  pub tile-found : {n : ℕ} → length out ≡ 64000 → outcome (Found n) o ≡ detectFrom b out → linesIn (min mostShown n) o ++ foundLine n ≡ tileOutput b
+  pub tile-found : {n : ℕ} → length out ≡ 62400 → outcome (Found n) o ≡ detectFrom b out → linesIn (min mostShown n) o ++ foundLine n ≡ tileOutput b
   unfolding tileOutput printed
   tile-found {n} long e = ap (λ (x : List ℕ). x ++ foundLine n) (lines-told long e) ∙ sym (ap (λ (a : Answer). printed a found) (answer-told e))
 
@@ -100,7 +100,7 @@ module _ (b : List ℕ) where
   unfolding listOutput checkedOutput tileOutput printed
   detection-refuses w h e = rw (h, e)
 
-  -- otherwise the first 1,600 records, and the full count
+  -- otherwise the first 1,300 records, and the full count
   pub list-found : (n : ℕ) → firstOf (listChecks b) ≡ Fine → detectFrom b [] .answer ≡ Found n → listOutput b ≡ linesOf (take mostShown (due (mapsFrom b))) ++ foundLine n
   unfolding listOutput checkedOutput tileOutput printed
   list-found n h e = rw (h, e)

@@ -16,7 +16,7 @@ use Rattle.lister.specs.Detect.{detectFrom, mapsFrom}
 
 -- how many records are printed at most
 abbrev pub mostShown : ℕ
-mostShown = 1600
+mostShown = 1300
 
 -- the first records' bytes as hex digits, a line each, then the full count, or `refused` and a number
 unfoldable pub printed : Answer → List Record → List ℕ

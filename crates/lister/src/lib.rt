@@ -12,13 +12,13 @@ use detect::Answer;
 use tables::Checked;
 
 // How many records are printed at most.
-const MOST_SHOWN: usize = 1600;
+const MOST_SHOWN: usize = 1300;
 
 // The bytes of so many records.
-const SHOWN_BYTES: usize = 64000;
+const SHOWN_BYTES: usize = 62400;
 
 // Room for so many lines and the count's.
-const OUTPUT: usize = 129640;
+const OUTPUT: usize = 126140;
 
 // How many of the records found are printed: the first ones.
 fn shown(count: usize) -> usize

@@ -6,6 +6,8 @@ use lib.IntN.{pos}
 use lib.ListN.{getD}
 use lib.Ieee.{Float, binary32, ofInt}
 use Rattle.float.specs.Small.{finite}
+use Rattle.float.specs.Num.{f0}
+use Rattle.moves.specs.Moves.{keptOf}
 use Rattle.tables.specs.declared.Set.{Set}
 use Rattle.tables.specs.declared.Thresholds.{Thresholds}
 use Rattle.fit.specs.Cubic.{_at_, coeffsOf}
@@ -45,13 +47,13 @@ wholeOf (l ∷ ls) = wholePlace l && wholeOf ls
 -- a spot at the pixel itself, before it is refined
 unfoldable pub anchorOf : ℕ → ℕ → Float → Float → ℕ → Bool → Spot
 anchorOf row col sigma peak octave isMax =
-    record { x = ofInt binary32 (pos col); y = ofInt binary32 (pos row); sigma = sigma; peak = peak; octave = octave; index = 0; max = isMax }
+    record { x = ofInt binary32 (pos col); y = ofInt binary32 (pos row); sigma = sigma; peak = peak; octave = octave; index = 0; max = isMax; dx = f0; dy = f0 }
 
 -- 1 for a maximum, 0 for a minimum
 unfoldable pub polarityOf : Bool → ℕ
 polarityOf isMax = cond isMax 1 0
 
--- the record of a refined spot: its centre samples l, and the order key row*cols + col of its pixel
+-- the record of a refined spot: its centre samples l, the order key row*cols + col of its pixel, and how far it was moved
 unfoldable pub recordOf : Spot → List Float → ℕ → Record
 recordOf spot l key = record {
   x = spot .x;
@@ -67,6 +69,8 @@ recordOf spot l key = record {
   index = spot .index;
   polarity = polarityOf (spot .max);
   spare = 0;
+  dx = keptOf (spot .dx);
+  dy = keptOf (spot .dy);
 }
 
 -- an accepted spot's record is listed where the join accepts it, so that each of its floats is finite

@@ -70,7 +70,7 @@ nineFours k =
 
 -- a spot before its refinement: octave and scale index 0
 unfoldable pub freshOf : Float → Float → Float → Float → Bool → Spot
-freshOf x y sigma peak isMax = record { x = x; y = y; sigma = sigma; peak = peak; octave = 0; index = 0; max = isMax }
+freshOf x y sigma peak isMax = record { x = x; y = y; sigma = sigma; peak = peak; octave = 0; index = 0; max = isMax; dx = f0; dy = f0 }
 
 -- what the refinement leaves, by numbers: 1 where it accepted and else 0, x, y, sigma, peak, the scale index
 unfoldable pub leavesOf : Settled → List Float

@@ -111,6 +111,8 @@ pub fn fresh(x: f32, y: f32, sigma: f32, peak: f32, is_max: bool) -> Spot
         octave: 0,
         index: 0,
         max: is_max,
+        dx: 0.0,
+        dy: 0.0,
     }
 }
 

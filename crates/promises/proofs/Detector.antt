@@ -29,6 +29,7 @@ use Rattle.tiles.proofs.length_of as length-of
 use Rattle.scene_checks.proofs.checked as scene-checked
 use Rattle.scene.proofs.scene as scene
 use Rattle.join.proofs.join as join
+use Rattle.join.proofs.join_old as join-old
 use Rattle.size.proofs.correct as correct
 use Rattle.kernels.proofs.gauss.gaussian as gaussian
 use Rattle.kernels.proofs.gauss.octave_kernel as octave-kernel
@@ -89,6 +90,9 @@ module _ {M : Type 1} (𝓤 : URA M) (H : Heap 𝓤) (A : Atoms 𝓤) (mem : Mem
 
   pub join-settled : Settles 𝓤 join.ended (join.clauses 𝓤 H A mem run)
   join-settled κs a g g' r r' ws ws' = one-value 𝓤 _ _ _ (λ x. x .answer) (λ x. untouched 4 (x .buffer, tt))
+
+  pub join-old-settled : Settles 𝓤 join-old.ended (join-old.clauses 𝓤 H A mem run)
+  join-old-settled κs a g g' r r' ws ws' = one-value 𝓤 _ _ _ (λ x. x .answer) (λ x. untouched 4 (x .buffer, tt))
 
   pub correct-settled : Settles 𝓤 correct.ended (correct.clauses 𝓤 H A mem run)
   correct-settled κs a g g' r r' ws ws' = one-answer 𝓤 _

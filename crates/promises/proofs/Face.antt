@@ -8,6 +8,7 @@ use ghost.Atoms.{Atoms}
 use contract.Monad.{Fun}
 use Rattle.alp_c.proofs.uramsheg_detect as uramsheg-detect
 use Rattle.alp_c.proofs.uramsheg_join as uramsheg-join
+use Rattle.alp_c.proofs.uramsheg_join_old as uramsheg-join-old
 use Rattle.alp_c.proofs.uramsheg_correct as uramsheg-correct
 use Rattle.alp_c.proofs.uramsheg_octave_count as uramsheg-octave-count
 use Rattle.alp_c.proofs.uramsheg_downsample as uramsheg-downsample
@@ -25,6 +26,9 @@ module _ {M : Type 1} (𝓤 : URA M) (H : Heap 𝓤) (A : Atoms 𝓤) (mem : Mem
 
   pub uramsheg-join-settled : Settles 𝓤 uramsheg-join.ended (uramsheg-join.clauses 𝓤 H A mem run)
   uramsheg-join-settled κs a g g' r r' ws ws' = one-value 𝓤 _ _ _ (λ x. x .number) (λ x. untouched 4 (x .buffer, (x .value, tt)))
+
+  pub uramsheg-join-old-settled : Settles 𝓤 uramsheg-join-old.ended (uramsheg-join-old.clauses 𝓤 H A mem run)
+  uramsheg-join-old-settled κs a g g' r r' ws ws' = one-value 𝓤 _ _ _ (λ x. x .number) (λ x. untouched 4 (x .buffer, (x .value, tt)))
 
   pub uramsheg-correct-settled : Settles 𝓤 uramsheg-correct.ended (uramsheg-correct.clauses 𝓤 H A mem run)
   uramsheg-correct-settled κs a g g' r r' ws ws' = one-value 𝓤 _ _ _ (λ x. x .number) (λ x. untouched 7 (x .corrected, (x .cause, tt)))

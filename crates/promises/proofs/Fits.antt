@@ -34,7 +34,8 @@ use Rattle.spatial.proofs.place.denominator as denominator
 use Rattle.spatial.proofs.place.is_steep as is-steep
 use Rattle.spatial.proofs.place.delta_y as delta-y
 use Rattle.spatial.proofs.place.delta_x as delta-x
-use Rattle.spatial.proofs.place.is_nearby as is-nearby
+use Rattle.moves.proofs.is_nearby as is-nearby
+use Rattle.moves.proofs.kept as kept
 use Rattle.refine.proofs.refine.refine_keypoint_2d as refine-keypoint-2d
 use Rattle.refine.proofs.lend.settle as settle
 use Rattle.refine.proofs.lend.refine_spot as refine-spot
@@ -147,6 +148,9 @@ module _ {M : Type 1} (𝓤 : URA M) (H : Heap 𝓤) (A : Atoms 𝓤) (mem : Mem
 
   pub is-nearby-settled : Settles 𝓤 is-nearby.ended (is-nearby.clauses 𝓤 H A mem run)
   is-nearby-settled κs a g g' r r' ws ws' = one-answer 𝓤 _
+
+  pub kept-settled : Settles 𝓤 kept.ended (kept.clauses 𝓤 H A mem run)
+  kept-settled κs a g g' r r' ws ws' = one-answer 𝓤 _
 
   pub refine-keypoint-2d-settled : Settles 𝓤 refine-keypoint-2d.ended (refine-keypoint-2d.clauses 𝓤 H A mem run)
   refine-keypoint-2d-settled κs a g g' r r' ws ws' = one-answer 𝓤 _

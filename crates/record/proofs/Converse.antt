@@ -12,16 +12,16 @@ use lib.Ieee.{Float, nan, inf, fin, binary32, isNan, ofBits}
 use lib.Ieee.Bits.{toBits-ofBits}
 use Rattle.float.specs.Small.{finite}
 use Rattle.words.specs.Words.{wordBytes, floatBytes, wordFrom, floatFrom}
-use Rattle.record.specs.Layout.{spotWidth, floats4, recordBytes, recordFrom}
+use Rattle.record.specs.Layout.{spotWidth, oldWidth, floats4, oldBytes, recordBytes, recordWith, recordFrom, oldFrom}
 use Rattle.record.specs.Readable.{Finite}
 
 -- ---- a record's own bytes
 
-module _ (b : List ℕ) (at : ℕ) where
-  own-byte : (k : ℕ) → k < spotWidth → getD (take spotWidth (drop at b)) k 0 ≡ getD b (at + k) 0
-  own-byte k h = getD-take spotWidth (drop at b) k 0 h ∙ getD-drop at b k 0
+module _ (b : List ℕ) (at w : ℕ) where
+  own-byte : (k : ℕ) → k < w → getD (take w (drop at b)) k 0 ≡ getD b (at + k) 0
+  own-byte k h = getD-take w (drop at b) k 0 h ∙ getD-drop at b k 0
 
-  own-word : (k : ℕ) → k + 4 ≤ spotWidth → wordFrom (take spotWidth (drop at b)) k ≡ wordFrom b (at + k)
+  own-word : (k : ℕ) → k + 4 ≤ w → wordFrom (take w (drop at b)) k ≡ wordFrom b (at + k)
   unfolding wordFrom
   own-word k h =
       let e1 : at + k + 1 ≡ at + (k + 1) = omega arith in
@@ -29,14 +29,13 @@ module _ (b : List ℕ) (at : ℕ) where
       let e3 : at + k + 3 ≡ at + (k + 3) = omega arith in
       rw (own-byte k (omega arith), own-byte (k + 1) (omega arith), own-byte (k + 2) (omega arith), own-byte (k + 3) (omega arith), e1, e2, e3)
 
-  own-float : (k : ℕ) → k + 4 ≤ spotWidth → floatFrom (take spotWidth (drop at b)) k ≡ floatFrom b (at + k)
+  own-float : (k : ℕ) → k + 4 ≤ w → floatFrom (take w (drop at b)) k ≡ floatFrom b (at + k)
   unfolding floatFrom
   own-float k h = ap (ofBits binary32) (own-word k h)
 
-  -- a record is read of the bytes of its width that begin where it does
-  pub record-own : recordFrom (take spotWidth (drop at b)) 0 ≡ recordFrom b at
-  unfolding recordFrom
-  record-own = λ i. record {
+  with-own : {dx dx' dy dy' : Float} → oldWidth ≤ w → dx ≡ dx' → dy ≡ dy' → recordWith (take w (drop at b)) 0 dx dy ≡ recordWith b at dx' dy'
+  unfolding recordWith
+  with-own h x-is y-is = λ i. record {
     x = first i;
     y = own-float 4 (omega arith) i;
     sigma = own-float 8 (omega arith) i;
@@ -50,14 +49,30 @@ module _ (b : List ℕ) (at : ℕ) where
     index = own-byte 37 (omega arith) i;
     polarity = own-byte 38 (omega arith) i;
     spare = own-byte 39 (omega arith) i;
+    dx = x-is i;
+    dy = y-is i;
   }
     where
-      first : floatFrom (take spotWidth (drop at b)) 0 ≡ floatFrom b at
+      first : floatFrom (take w (drop at b)) 0 ≡ floatFrom b at
       first = let start : at + 0 ≡ at = omega arith in own-float 0 (omega arith) ∙ ap (floatFrom b) start
+
+-- a record is read of the bytes of its width that begin where it does
+pub record-own : (b : List ℕ) (at : ℕ) → recordFrom (take spotWidth (drop at b)) 0 ≡ recordFrom b at
+unfolding recordFrom
+record-own b at = with-own b at spotWidth (omega arith) (own-float b at spotWidth 40 (omega arith)) (own-float b at spotWidth 44 (omega arith))
+
+-- and so is an old one
+pub old-own : (b : List ℕ) (at : ℕ) → oldFrom (take oldWidth (drop at b)) 0 ≡ oldFrom b at
+unfolding oldFrom
+old-own b at = with-own b at oldWidth (omega arith) refl refl
 
 -- equal bytes are read as equal records, wherever they stand
 pub same-bytes-same-record : (b c : List ℕ) (at to : ℕ) → take spotWidth (drop at b) ≡ take spotWidth (drop to c) → recordFrom b at ≡ recordFrom c to
 same-bytes-same-record b c at to e = sym (record-own b at) ∙ ap (λ (own : List ℕ). recordFrom own 0) e ∙ record-own c to
+
+-- and as equal old ones
+pub same-bytes-same-old : (b c : List ℕ) (at to : ℕ) → take oldWidth (drop at b) ≡ take oldWidth (drop to c) → oldFrom b at ≡ oldFrom c to
+same-bytes-same-old b c at to e = sym (old-own b at) ∙ ap (λ (own : List ℕ). oldFrom own 0) e ∙ old-own c to
 
 -- ---- one word
 
@@ -127,10 +142,10 @@ module _ (b : List ℕ) (bytes : (k : ℕ) → getD b k 0 < 256) where
   bytes-kept : (at p q r : ℕ) → p ≡ at + 1 → q ≡ at + 2 → r ≡ at + 3 → at + 4 ≤ length b → getD b at 0 ∷ getD b p 0 ∷ getD b q 0 ∷ getD b r 0 ∷ [] ≡ take 4 (drop at b)
   bytes-kept at p q r hp hq hr h = rw (hp, hq, hr) (sym (four-taken at h))
 
-  -- a finite record's bytes are those of which it was read
-  pub record-kept : (at : ℕ) → at + spotWidth ≤ length b → Finite (recordFrom b at) → recordBytes (recordFrom b at) ≡ take spotWidth (drop at b)
-  unfolding recordBytes recordFrom
-  record-kept at h f =
+  -- a record read with any displacement has the bytes of which it was read, where its other floats are finite
+  pub old-kept : (at : ℕ) (dx dy : Float) → at + oldWidth ≤ length b → Finite (recordWith b at dx dy) → oldBytes (recordWith b at dx dy) ≡ take oldWidth (drop at b)
+  unfolding oldBytes recordWith
+  old-kept at dx dy h f =
       rw (
         floats-kept at (at + 4) (at + 8) (at + 12) refl refl refl (omega arith) (f .x) (f .y) (f .sigma) (f .peak),
         floats-kept (at + 16) (at + 20) (at + 24) (at + 28) (omega arith) (omega arith) (omega arith) (omega arith) (f .s0) (f .s1) (f .s2) (f .s3),
@@ -138,5 +153,18 @@ module _ (b : List ℕ) (bytes : (k : ℕ) → getD b k 0 < 256) where
         bytes-kept (at + 36) (at + 37) (at + 38) (at + 39) (omega arith) (omega arith) (omega arith) (omega arith),
         joined 4 4 8 (at + 32) (at + 36) (omega arith) refl,
         joined 16 8 24 (at + 16) (at + 32) (omega arith) refl,
-        joined 16 24 spotWidth at (at + 16) refl refl,
+        joined 16 24 oldWidth at (at + 16) refl refl,
       )
+
+  -- a finite record's bytes are those of which it was read
+  pub record-kept : (at : ℕ) → at + spotWidth ≤ length b → Finite (recordFrom b at) → finite (floatFrom b (at + 40)) ≡ true → finite (floatFrom b (at + 44)) ≡ true
+      → recordBytes (recordFrom b at) ≡ take spotWidth (drop at b)
+  unfolding recordBytes recordFrom recordWith
+  record-kept at h f x y =
+      ap (λ (front : List ℕ). front ++ (floatBytes (floatFrom b (at + 40)) ++ floatBytes (floatFrom b (at + 44)))) (old-kept at _ _ (omega arith) f)
+      ∙ ap (λ (rest : List ℕ). take oldWidth (drop at b) ++ rest) (moved-kept at h x y)
+      ∙ joined oldWidth 8 spotWidth at (at + 40) refl refl
+    where
+      moved-kept : (at : ℕ) → at + spotWidth ≤ length b → finite (floatFrom b (at + 40)) ≡ true → finite (floatFrom b (at + 44)) ≡ true
+          → floatBytes (floatFrom b (at + 40)) ++ floatBytes (floatFrom b (at + 44)) ≡ take 8 (drop (at + 40) b)
+      moved-kept at h x y = rw (float-kept (at + 40) (omega arith) x, float-kept (at + 44) (omega arith) y) (joined 4 4 8 (at + 40) (at + 44) (omega arith) refl)

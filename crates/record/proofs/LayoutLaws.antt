@@ -12,8 +12,8 @@ use lib.Ieee.{Float}
 use borrow.Author.Tests.{le-leb, lt-leb}
 use Rattle.words.specs.Words.{wordBytes, floatBytes}
 use Rattle.words.proofs.Stores.{sets-append}
-use Rattle.words.proofs.WordsLaws.{length-wordBytes}
-use Rattle.record.specs.Layout.{spotWidth, floats4, recordBytes, put, lay, bytesOf, laid, written, Laid}
+use Rattle.words.proofs.WordsLaws.{length-wordBytes, length-floatBytes}
+use Rattle.record.specs.Layout.{spotWidth, oldWidth, floats4, oldBytes, recordBytes, put, lay, bytesOf, laid, written, Laid}
 use Rattle.record.specs.declared.Record.{Record}
 
 -- ---- lengths
@@ -22,8 +22,12 @@ pub length-floats4 : (a b c d : Float) → length (floats4 a b c d) ≡ 16
 unfolding floats4 floatBytes wordBytes
 length-floats4 a b c d = refl
 
+pub length-oldBytes : (r : Record) → length (oldBytes r) ≡ oldWidth
+unfolding oldBytes floats4 floatBytes wordBytes
+length-oldBytes r = refl
+
 pub length-recordBytes : (r : Record) → length (recordBytes r) ≡ spotWidth
-unfolding recordBytes floats4 floatBytes wordBytes
+unfolding recordBytes oldBytes floats4 floatBytes wordBytes
 length-recordBytes r = refl
 
 pub length-bytesOf : (rs : List Record) → length (bytesOf rs) ≡ length rs * spotWidth
@@ -46,15 +50,29 @@ length-lay (r ∷ rs) out n = length-lay rs (put out n r) (suc n) ∙ length-put
 
 -- ---- one record
 
--- the four parts of a record, stored one after the other
-pub recordBytes-parts : {b c d e : List ℕ} (a : List ℕ) (at : ℕ) (r : Record)
+-- its first bytes are the old record's
+pub old-first : (r : Record) → take oldWidth (recordBytes r) ≡ oldBytes r
+unfolding recordBytes
+old-first r = take-at (oldBytes r) _ oldWidth (length-oldBytes r)
+
+-- the four parts of an old record, stored one after the other
+pub oldBytes-parts : {b c d e : List ℕ} (a : List ℕ) (at : ℕ) (r : Record)
     → b ≡ sets a at (floats4 (r .x) (r .y) (r .sigma) (r .peak))
     → c ≡ sets b (at + 16) (floats4 (r .s0) (r .s1) (r .s2) (r .s3))
     → d ≡ sets c (at + 32) (wordBytes (r .key))
     → e ≡ sets d (at + 36) (r .octave ∷ r .index ∷ r .polarity ∷ r .spare ∷ [])
-    → e ≡ sets a at (recordBytes r)
+    → e ≡ sets a at (oldBytes r)
+unfolding oldBytes
+oldBytes-parts a at r b-is c-is d-is e-is = simp (sets-append, length-floats4, length-wordBytes, add-assoc) (rw (e-is, d-is, c-is, b-is))
+
+-- an old record and the displacement, stored one after the other
+pub recordBytes-parts : {b c d : List ℕ} (a : List ℕ) (at : ℕ) (r : Record)
+    → b ≡ sets a at (oldBytes r)
+    → c ≡ sets b (at + 40) (floatBytes (r .dx))
+    → d ≡ sets c (at + 44) (floatBytes (r .dy))
+    → d ≡ sets a at (recordBytes r)
 unfolding recordBytes
-recordBytes-parts a at r b-is c-is d-is e-is = simp (sets-append, length-floats4, length-wordBytes, add-assoc) (rw (e-is, d-is, c-is, b-is))
+recordBytes-parts a at r b-is c-is d-is = simp (sets-append, length-oldBytes, length-floatBytes, add-assoc) (rw (d-is, c-is, b-is))
 
 -- ---- records laid one by one
 

@@ -6,7 +6,8 @@ use mathlib.Core.Logic.{_⊎_, inl, inr}
 use lib.Dec.{leb, ltb, eqb}
 use borrow.Author.Tests.{ltb-true, leb-true, eqb-true, lt-ltb, le-leb, eq-eqb}
 use Rattle.float.specs.Small.{finite}
-use Rattle.float.proofs.Bools.{all-eight}
+use Rattle.float.proofs.Bools.{both, all-eight}
+use Rattle.moves.specs.Moves.{nearby}
 use Rattle.record.specs.Readable.{finiteRecord, onSide, readable, Finite, Readable}
 use Rattle.record.specs.declared.Record.{Record}
 
@@ -32,7 +33,9 @@ module _ (rows cols : ℕ) (r : Record) where
   pub readable-parts : readable rows cols r ≡ true → Readable rows cols r
   unfolding readable
   readable-parts q =
-      let p = all-eight (finiteRecord r) (onSide cols (r .x)) (onSide rows (r .y)) (ltb (r .key) (rows * cols)) (leb (r .octave) 5) (eqb (r .index) 1 || eqb (r .index) 2) (leb (r .polarity) 1) (eqb (r .spare) 0) q in
+      let front = both _ (nearby (r .dy)) q in
+      let old = both _ (nearby (r .dx)) (front .0) in
+      let p = all-eight (finiteRecord r) (onSide cols (r .x)) (onSide rows (r .y)) (ltb (r .key) (rows * cols)) (leb (r .octave) 5) (eqb (r .index) 1 || eqb (r .index) 2) (leb (r .polarity) 1) (eqb (r .spare) 0) (old .0) in
       record {
         floats = finite-parts r (p .0);
         x = p .1;
@@ -42,9 +45,11 @@ module _ (rows cols : ℕ) (r : Record) where
         index = one-of (r .index) (eqb (r .index) 1) (eqb (r .index) 2) (eqb-true (r .index) 1) (eqb-true (r .index) 2) (p .5);
         polarity = leb-true (r .polarity) 1 (p .6);
         spare = eqb-true (r .spare) 0 (p .7);
+        dx = old .1;
+        dy = front .1;
       }
 
   pub parts-readable : Readable rows cols r → readable rows cols r ≡ true
   unfolding readable
   parts-readable p =
-      rw (parts-finite r (p .floats), p .x, p .y, lt-ltb (r .key) (rows * cols) (p .key), le-leb (r .octave) 5 (p .octave), index-is (r .index) (p .index), le-leb (r .polarity) 1 (p .polarity), eq-eqb (r .spare) 0 (p .spare))
+      rw (parts-finite r (p .floats), p .x, p .y, lt-ltb (r .key) (rows * cols) (p .key), le-leb (r .octave) 5 (p .octave), index-is (r .index) (p .index), le-leb (r .polarity) 1 (p .polarity), eq-eqb (r .spare) 0 (p .spare), p .dx, p .dy)

@@ -11,20 +11,20 @@ use lib.Dec.{T}
 use lib.Ieee.{Float, binary32, fits}
 use Rattle.words.specs.Words.{wordBytes, floatBytes, wordFrom, floatFrom}
 use Rattle.words.proofs.WordsLaws.{wordFrom-append, floatFrom-append, wordFrom-wordBytes, floatFrom-floatBytes}
-use Rattle.record.specs.Layout.{spotWidth, floats4, recordBytes, bytesOf, laid, written, recordFrom, recordAt, Held}
+use Rattle.record.specs.Layout.{spotWidth, floats4, oldBytes, recordBytes, bytesOf, laid, written, recordWith, recordFrom, recordAt, Held}
 use Rattle.record.specs.declared.Record.{Record}
 use Rattle.record.proofs.LayoutLaws.{length-bytesOf}
 
 -- ---- reading past a front
 
 pub recordFrom-append : (front b : List ℕ) (k : ℕ) → recordFrom (front ++ b) (length front + k) ≡ recordFrom b k
-unfolding recordFrom
+unfolding recordFrom recordWith
 recordFrom-append front b k = simp (add-assoc, floatFrom-append, wordFrom-append, getD-append-add)
 
 -- ---- one record
 
 first-back : (r : Record) (rest : List ℕ) → Held r → recordFrom (recordBytes r ++ rest) 0 ≡ r
-unfolding recordFrom recordBytes floats4 floatFrom floatBytes wordFrom wordBytes
+unfolding recordFrom recordWith recordBytes oldBytes floats4 floatFrom floatBytes wordFrom wordBytes
 first-back r rest h = λ i. record {
   x = back (r .x) (h .x) i;
   y = back (r .y) (h .y) i;
@@ -39,6 +39,8 @@ first-back r rest h = λ i. record {
   index = r .index;
   polarity = r .polarity;
   spare = r .spare;
+  dx = back (r .dx) (h .dx) i;
+  dy = back (r .dy) (h .dy) i;
 }
   where
     back : (x : Float) → T (fits binary32 x) → floatFrom (floatBytes x ++ []) 0 ≡ x

@@ -7,12 +7,17 @@ use lib.ListN.{getD, length, take, drop}
 use lib.Seq.{sets}
 use lib.Dec.{T, leb}
 use lib.Ieee.{Float, binary32, fits}
+use Rattle.float.specs.Num.{f0}
 use Rattle.words.specs.Words.{wordBytes, floatBytes, wordFrom, floatFrom}
 use Rattle.record.specs.declared.Record.{Record}
 
 -- how many bytes a record has
 abbrev pub spotWidth : ℕ
-spotWidth = 40
+spotWidth = 48
+
+-- how many it had before displacements were kept
+abbrev pub oldWidth : ℕ
+oldWidth = 40
 
 -- ---- writing
 
@@ -20,11 +25,15 @@ spotWidth = 40
 unfoldable pub floats4 : Float → Float → Float → Float → List ℕ
 floats4 a b c d = floatBytes a ++ (floatBytes b ++ (floatBytes c ++ floatBytes d))
 
--- its bytes: x, y, sigma, peak, the four centre samples, order key, octave, scale index, polarity, a spare byte
-unfoldable pub recordBytes : Record → List ℕ
-recordBytes r =
+-- the bytes of an old record: x, y, sigma, peak, the four centre samples, order key, octave, scale index, polarity, a spare byte
+unfoldable pub oldBytes : Record → List ℕ
+oldBytes r =
     floats4 (r .x) (r .y) (r .sigma) (r .peak) ++ (floats4 (r .s0) (r .s1) (r .s2) (r .s3)
     ++ (wordBytes (r .key) ++ (r .octave ∷ r .index ∷ r .polarity ∷ r .spare ∷ [])))
+
+-- a record's bytes: those of the old record, then delta x and delta y
+unfoldable pub recordBytes : Record → List ℕ
+recordBytes r = oldBytes r ++ (floatBytes (r .dx) ++ floatBytes (r .dy))
 
 -- the record r at place n of the buffer, where it has room for it whole
 unfoldable pub put : List ℕ → ℕ → Record → List ℕ
@@ -55,9 +64,9 @@ pub record Laid (out out' : List ℕ) (n r : ℕ) (rs : List Record) : Type 0 wh
 
 -- ---- reading
 
--- the record that begins at the byte at
-unfoldable pub recordFrom : List ℕ → ℕ → Record
-recordFrom b at = record {
+-- the record whose first bytes begin at the byte at, with the displacement dx, dy
+unfoldable pub recordWith : List ℕ → ℕ → Float → Float → Record
+recordWith b at dx dy = record {
   x = floatFrom b at;
   y = floatFrom b (at + 4);
   sigma = floatFrom b (at + 8);
@@ -71,7 +80,17 @@ recordFrom b at = record {
   index = getD b (at + 37) 0;
   polarity = getD b (at + 38) 0;
   spare = getD b (at + 39) 0;
+  dx = dx;
+  dy = dy;
 }
+
+-- the record that begins at the byte at
+unfoldable pub recordFrom : List ℕ → ℕ → Record
+recordFrom b at = recordWith b at (floatFrom b (at + 40)) (floatFrom b (at + 44))
+
+-- the old record that begins at the byte at; it tells no displacement, and is read with +0
+unfoldable pub oldFrom : List ℕ → ℕ → Record
+oldFrom b at = recordWith b at f0 f0
 
 -- the n-th record of a list's bytes
 abbrev pub recordAt : List ℕ → ℕ → Record
@@ -88,3 +107,5 @@ pub record Held (r : Record) : Type 0 where
   pub s2 : T (fits binary32 (r .s2))
   pub s3 : T (fits binary32 (r .s3))
   pub key : r .key < 2 ^ 32
+  pub dx : T (fits binary32 (r .dx))
+  pub dy : T (fits binary32 (r .dy))

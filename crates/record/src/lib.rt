@@ -3,11 +3,14 @@ ghost use mathlib.Core.Path.{_≡_};
 ghost use Prim.Native.Nat.{_+_, _<_, _≤_, _^_};
 ghost use lib.ListN.{length};
 ghost use lib.Seq.{sets};
-ghost use Rattle.record.specs.Layout.{spotWidth, floats4, recordBytes, put, recordFrom};
+ghost use Rattle.record.specs.Layout.{spotWidth, oldWidth, floats4, oldBytes, recordBytes, put, recordWith, recordFrom, oldFrom};
 ghost use Rattle.record.specs.Readable.{finiteRecord, within, onSide, readable};
 
 // How many bytes a record has.
-pub const SPOT_WIDTH: usize = 40;
+pub const SPOT_WIDTH: usize = 48;
+
+// How many it had before displacements were kept.
+pub const OLD_WIDTH: usize = 40;
 
 pub struct Record {
     pub x: f32,
@@ -23,6 +26,8 @@ pub struct Record {
     pub index: u8,
     pub polarity: u8,
     pub spare: u8,
+    pub dx: f32,
+    pub dy: f32,
 }
 
 // ---- writing
@@ -38,15 +43,25 @@ fn put_floats(out: &mut [u8], at: usize, a: f32, b: f32, c: f32, d: f32)
     words::put_float(out, at + 12, d);
 }
 
-// The record's bytes from the byte at on.
-pub fn put_record(out: &mut [u8], at: usize, r: Record)
-    requires { ⌜ at + spotWidth ≤ length (now out) ⌝ }
-    ensures { λ _. ⌜ now (out .exit) ≡ sets (now (out .entry)) at (recordBytes r) ⌝ }
+// The bytes of an old record, all but the displacement, from the byte at on.
+pub fn put_old(out: &mut [u8], at: usize, r: Record)
+    requires { ⌜ at + oldWidth ≤ length (now out) ⌝ }
+    ensures { λ _. ⌜ now (out .exit) ≡ sets (now (out .entry)) at (oldBytes r) ⌝ }
 {
     put_floats(out, at, r.x, r.y, r.sigma, r.peak);
     put_floats(out, at + 16, r.s0, r.s1, r.s2, r.s3);
     words::put_word(out, at + 32, r.key);
     words::put_bytes(out, at + 36, r.octave, r.index, r.polarity, r.spare);
+}
+
+// The record's bytes from the byte at on.
+pub fn put_record(out: &mut [u8], at: usize, r: Record)
+    requires { ⌜ at + spotWidth ≤ length (now out) ⌝ }
+    ensures { λ _. ⌜ now (out .exit) ≡ sets (now (out .entry)) at (recordBytes r) ⌝ }
+{
+    put_old(out, at, r);
+    words::put_float(out, at + 40, r.dx);
+    words::put_float(out, at + 44, r.dy);
 }
 
 // The record at place n, where the buffer has room for it whole.
@@ -62,10 +77,10 @@ pub fn put_at(out: &mut [u8], n: usize, r: Record)
 
 // ---- reading
 
-// The record that begins at the byte at.
-pub fn record_from(b: &[u8], at: usize) -> Record
-    requires { ⌜ at + spotWidth ≤ length (now b) ⌝ }
-    ensures { λ r. ⌜ r ≡ recordFrom (now (b .entry)) at ⌝ }
+// The record whose first bytes begin at the byte at, with this displacement.
+fn record_with(b: &[u8], at: usize, dx: f32, dy: f32) -> Record
+    requires { ⌜ at + oldWidth ≤ length (now b) ⌝ }
+    ensures { λ r. ⌜ r ≡ recordWith (now (b .entry)) at dx dy ⌝ }
 {
     Record {
         x: words::float_from(b, at),
@@ -81,12 +96,32 @@ pub fn record_from(b: &[u8], at: usize) -> Record
         index: b[at + 37],
         polarity: b[at + 38],
         spare: b[at + 39],
+        dx,
+        dy,
     }
+}
+
+// The record that begins at the byte at.
+pub fn record_from(b: &[u8], at: usize) -> Record
+    requires { ⌜ at + spotWidth ≤ length (now b) ⌝ }
+    ensures { λ r. ⌜ r ≡ recordFrom (now (b .entry)) at ⌝ }
+{
+    let dx = words::float_from(b, at + 40);
+    let dy = words::float_from(b, at + 44);
+    record_with(b, at, dx, dy)
+}
+
+// The old record that begins at the byte at, with a displacement of 0, which it does not tell.
+pub fn old_from(b: &[u8], at: usize) -> Record
+    requires { ⌜ at + oldWidth ≤ length (now b) ⌝ }
+    ensures { λ r. ⌜ r ≡ oldFrom (now (b .entry)) at ⌝ }
+{
+    record_with(b, at, 0.0, 0.0)
 }
 
 // ---- readable
 
-// Whether each float is finite.
+// Whether each float but the displacements is finite.
 fn is_finite_record(r: Record) -> bool
     ensures { λ result. ⌜ result ≡ finiteRecord r ⌝ }
 {
@@ -140,4 +175,6 @@ pub fn is_readable(rows: usize, cols: usize, r: Record) -> bool
         & ((r.index == 1) | (r.index == 2))
         & (r.polarity <= 1)
         & (r.spare == 0)
+        & moves::is_nearby(r.dx)
+        & moves::is_nearby(r.dy)
 }

@@ -5,10 +5,9 @@ use mathlib.Core.Bool.{Bool, true, false, false≢true, cond, _&&_}
 use mathlib.Core.List.{List}
 use mathlib.Core.Logic.{_⊎_, inl, inr}
 use native.Mathlib.Omega.{arith}
-use borrow.Author.Tests.{not-true}
 use lib.Ieee.{Float, lt, le}
 use Rattle.float.specs.Small.{finite, absOf}
-use Rattle.float.specs.Num.{_⊕_, _⊖_, _⊗_, f2, f¼, f1e-10, f0·6}
+use Rattle.float.specs.Num.{_⊕_, _⊖_, _⊗_, f2, f¼, f1e-10}
 use Rattle.float.proofs.Bools.{both, all-eight, passed}
 use Rattle.tables.specs.declared.Set.{Set}
 use Rattle.fit.specs.Cubic.{_at_}
@@ -41,6 +40,8 @@ pub record Displaced (spot : Spot) (level : ℕ) (dx dy : Float) (found : Spot) 
   pub octave : found .octave ≡ spot .octave
   pub index : found .index ≡ level
   pub max : found .max ≡ spot .max
+  pub dx-is : found .dx ≡ dx
+  pub dy-is : found .dy ≡ dy
 
 placed-displaces : (spot found : Spot) (index : ℕ) (dx dy : Float) → placedOf spot index dx dy ≡ Accepted found → Displaced spot index dx dy found
 unfolding placedOf
@@ -48,7 +49,7 @@ placed-displaces spot found index dx dy h =
     let gate = passed (nearby dx && nearby dy) _ Rejected h (rejected-no-spot found) in
     let near = both (nearby dx) (nearby dy) (gate .0) in
     let e = gate .1 in
-    record { x = cc; y = cc; x-passes = near .0; y-passes = near .1; sigma = cc; peak = cc; octave = cc; index = cc; max = cc }
+    record { x = cc; y = cc; x-passes = near .0; y-passes = near .1; sigma = cc; peak = cc; octave = cc; index = cc; max = cc; dx-is = cc; dy-is = cc }
 
 moved-displaces : (spot found : Spot) (index : ℕ) (w : List Float) → movedOf spot index w ≡ Accepted found → Displaced spot index (deltaXOf w (deltaYOf w)) (deltaYOf w) found
 unfolding movedOf
@@ -64,11 +65,6 @@ pub accepted-displaced : (p : Prims) (set : Set) (most : Float) (k : List (List 
     Displaced spot index (deltaXOf w (deltaYOf w)) (deltaYOf w) found
 unfolding refineBy
 accepted-displaced p set most k spot found h = moved-displaces spot found _ _ (passed (edgeOf (valuesOf k (spot .sigma)) most (spot .max)) _ Rejected h (rejected-no-spot found) .1)
-
--- a displacement that passes is finite and not above 0.6 in size
-pub nearby-bounds : (d : Float) → nearby d ≡ true → (finite d ≡ true) × (lt f0·6 (absOf d) ≡ false)
-unfolding nearby
-nearby-bounds d h = let parts = both (finite d) _ h in (parts .0, not-true _ (parts .1))
 
 -- the index is one of the two inner levels'
 pub index-inner : (g : List Float) (sigma : Float) → (indexOf g sigma ≡ 1) ⊎ (indexOf g sigma ≡ 2)

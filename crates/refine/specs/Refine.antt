@@ -9,7 +9,8 @@ use Rattle.tables.specs.declared.Set.{Set}
 use Rattle.fit.specs.Cubic.{_at_}
 use Rattle.fit.specs.Prims.{Prims, ours}
 unfoldable pub use Rattle.spatial.specs.Edge.{valueOf, valuesOf, edgeOf}
-unfoldable pub use Rattle.spatial.specs.Place.{indexOf, sumFrom, blockOf, termOf, rowSumBy, spatialBy, denominatorOf, steepOf, deltaYOf, deltaXOf, nearby}
+unfoldable pub use Rattle.spatial.specs.Place.{indexOf, sumFrom, blockOf, termOf, rowSumBy, spatialBy, denominatorOf, steepOf, deltaYOf, deltaXOf}
+unfoldable pub use Rattle.moves.specs.Moves.{nearby}
 pub use Rattle.spatial.specs.Place.{spatialOf}
 use Rattle.refine.specs.declared.Spot.{Spot}
 use Rattle.refine.specs.declared.Refined.{Refined}
@@ -20,7 +21,7 @@ unfoldable pub placedOf : Spot → ℕ → Float → Float → Refined
 placedOf spot index dx dy =
     cond
     (nearby dx && nearby dy)
-    (Accepted (record { x = spot .x ⊕ dx; y = spot .y ⊕ dy; sigma = spot .sigma; peak = spot .peak; octave = spot .octave; index = index; max = spot .max }))
+    (Accepted (record { x = spot .x ⊕ dx; y = spot .y ⊕ dy; sigma = spot .sigma; peak = spot .peak; octave = spot .octave; index = index; max = spot .max; dx = dx; dy = dy }))
     Rejected
 
 -- The spot moved by the five numbers w of the fit. The denominator passes at exactly 1e-10, and so does w1 in size.

@@ -3,7 +3,8 @@
 pub mod lend;
 pub mod refine;
 
-// A spot: its place, the sigma and the response of its extremum, the octave, the inner level whose fit placed it, and whether it is a maximum.
+// A spot: its place, the sigma and the response of its extremum, the octave, the inner level whose fit placed it, whether it is a maximum, and how far the
+// fit moved it.
 pub struct Spot {
     pub x: f32,
     pub y: f32,
@@ -12,6 +13,8 @@ pub struct Spot {
     pub octave: u8,
     pub index: u8,
     pub max: bool,
+    pub dx: f32,
+    pub dy: f32,
 }
 
 // What the refinement answers.

@@ -13,7 +13,7 @@ use tables::Set;
 fn placed(spot: Spot, index: u8, dx: f32, dy: f32) -> Refined
     ensures { λ r. ⌜ r ≡ placedOf spot index dx dy ⌝ }
 {
-    if place::is_nearby(dx) & place::is_nearby(dy) {
+    if moves::is_nearby(dx) & moves::is_nearby(dy) {
         Refined::Accepted(Spot {
             x: spot.x + dx,
             y: spot.y + dy,
@@ -22,6 +22,8 @@ fn placed(spot: Spot, index: u8, dx: f32, dy: f32) -> Refined
             octave: spot.octave,
             index,
             max: spot.max,
+            dx,
+            dy,
         })
     } else {
         Refined::Rejected

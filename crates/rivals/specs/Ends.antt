@@ -39,7 +39,7 @@ nineIn x y z h a b c d =
 
 -- a spot with this sigma and polarity, wherever it lies
 abbrev pub spotOf : Float → Bool → Spot
-spotOf sigma isMax = record { x = f0; y = f0; sigma = sigma; peak = f0; octave = 0; index = 0; max = isMax }
+spotOf sigma isMax = record { x = f0; y = f0; sigma = sigma; peak = f0; octave = 0; index = 0; max = isMax; dx = f0; dy = f0 }
 
 -- the refinement accepts
 unfoldable pub acceptedOf : Refined → Bool

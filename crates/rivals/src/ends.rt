@@ -133,6 +133,8 @@ pub fn accepts(set: Set, ratio: f32, k: &[[f32; 4]; 9], sigma: f32, is_max: bool
         octave: 0,
         index: 0,
         max: is_max,
+        dx: 0.0,
+        dy: 0.0,
     };
     match refine::refine::refine_keypoint_2d(set, spot, k, ratio) {
         Refined::Accepted(_) => true,

@@ -9,7 +9,7 @@ use lib.Arith.{digits-div, digits-mod}
 use Rattle.record.specs.declared.Record.{Record}
 use Rattle.pixel.specs.declared.Verdict.the-variants.{Listed, Nothing}
 use Rattle.pixel.specs.Verdict.{recordOf}
-use Rattle.join.specs.Sized.{sizeOf}
+use Rattle.sized.specs.Sized.{sizeOf}
 use Rattle.tiles.specs.Tiles.{tilesOf, startOf, lengthOf}
 use Rattle.tiles.specs.Copy.{gather}
 use Rattle.tiles.proofs.TilesLaws.{on-side}

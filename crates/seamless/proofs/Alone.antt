@@ -17,11 +17,11 @@ use Rattle.record.specs.Layout.{spotWidth, recordAt, laid, written}
 use Rattle.samples.specs.Level.{Maps}
 use Rattle.detect.specs.Due.{due}
 use Rattle.detect.specs.Detect.{Outcome, detectOf}
-use Rattle.join.specs.Sized.{sizedWidth, sizedBytes}
-use Rattle.join.specs.Join.{recordsFrom, sizedAll, laidSized, joined, joinOf}
+use Rattle.sized.specs.Sized.{sizedWidth, sizedBytes}
+use Rattle.join.specs.Join.{recordsFrom, sizedAll, laidSized, joined, joinBy, joinOf}
 use Rattle.join.specs.Join as join
 use Rattle.join.specs.declared.Joined.the-variants.{Count}
-use Rattle.join.proofs.SizedLaws.{length-sizedBytes}
+use Rattle.sized.proofs.SizedLaws.{length-sizedBytes}
 use Rattle.demands.specs.List.{StandsAt}
 use Rattle.demands.specs.Joined.{Joins}
 use Rattle.demands.proofs.Joined.{output-joined}
@@ -42,14 +42,14 @@ use Rattle.seamless.specs.Alone.{withNumbers, Alone}
 -- ---- a tile by itself
 
 -- what the join makes of records, numbered record by record, is the tile's bytes
-sized-numbered : (s : Set) (i j : ℕ) (rs : List Record) → tileBytes s i j rs ≡ withNumbers i j (length rs) (sizedAll s rs)
+sized-numbered : (s : Set) (i j : ℕ) (rs : List Record) → tileBytes s i j rs ≡ withNumbers i j (length rs) (sizedAll false s rs)
 unfolding allBytes withNumbers sizedAll numberedBytes
 sized-numbered s i j [] = refl
 sized-numbered s i j (r ∷ rs) =
-    rw (take-at (sizedBytes s r) (sizedAll s rs) sizedWidth (length-sizedBytes s r), drop-at (sizedBytes s r) (sizedAll s rs) sizedWidth (length-sizedBytes s r), sized-numbered s i j rs)
+    rw (take-at (sizedBytes s r) (sizedAll false s rs) sizedWidth (length-sizedBytes s r), drop-at (sizedBytes s r) (sizedAll false s rs) sizedWidth (length-sizedBytes s r), sized-numbered s i j rs)
 
 -- records that stand at their places are the list
-records-are : (b : List ℕ) (rs : List Record) (i : ℕ) → ((k : ℕ) → k < length rs → StandsAt rs k (recordAt b (i + k))) → recordsFrom b (length rs) i ≡ rs
+records-are : (b : List ℕ) (rs : List Record) (i : ℕ) → ((k : ℕ) → k < length rs → StandsAt rs k (recordAt b (i + k))) → recordsFrom false b (length rs) i ≡ rs
 unfolding recordsFrom StandsAt
 records-are b [] i h = refl
 records-are b (r ∷ rs) i h =
@@ -58,8 +58,8 @@ records-are b (r ∷ rs) i h =
     rw (← first, records-are b rs (suc i) (λ k p. let g : i + suc k ≡ suc i + k = omega arith in rw g at (h (suc k) (omega arith))))
 
 joins-give : (s : Set) (h w : ℕ) (rs : List Record) (b o : List ℕ) → Joins h w rs (length rs) b → good s ≡ true → length rs * sizedWidth ≤ length o
-    → joinOf s h w b o ≡ join.outcome (Count (length rs)) (front (sizedAll s rs) o)
-unfolding joinOf joined laidSized
+    → joinOf s h w b o ≡ join.outcome (Count (length rs)) (front (sizedAll false s rs) o)
+unfolding joinBy joined laidSized
 joins-give s h w rs b o j is-good room =
     rw (j .fine s (length o) is-good room, j .count-is, records-are b rs 0 (λ k p. let e : 0 + k ≡ k = omega arith in rw e (j .as-found k p)))
 
@@ -68,7 +68,7 @@ module _ (s : Set) (th : Thresholds) (h w octave : ℕ) (l0 l1 l2 l3 : List Floa
   found = foundIn s th h w octave l0 l1 l2 l3
 
   alone-joins : (b o : List ℕ) → length found * spotWidth ≤ length b → length found * sizedWidth ≤ length o
-      → joinOf s h w (take (length found * spotWidth) (laid found b)) o ≡ join.outcome (Count (length found)) (front (sizedAll s found) o)
+      → joinOf s h w (take (length found * spotWidth) (laid found b)) o ≡ join.outcome (Count (length found)) (front (sizedAll false s found) o)
   alone-joins b o room room' =
       let d = detects s th h w octave l0 l1 l2 l3 p b in
       let n : written found b ≡ length found = omega arith in
@@ -115,7 +115,7 @@ module _ (step : ℕ) (advances : 0 < step) (small : step ≤ tileStep) (m : Map
 pub scene-bytes : (step : ℕ) (m : Maps) (n : ℕ) → bytesTo step m n ≡ gather (λ k.
     let i = k / across step (m .frame) in
     let j = k % across step (m .frame) in
-    withNumbers i j (length (due (tileMaps step m i j))) (sizedAll (m .set) (due (tileMaps step m i j)))) n
+    withNumbers i j (length (due (tileMaps step m i j))) (sizedAll false (m .set) (due (tileMaps step m i j)))) n
 unfolding bytesTo tileList
 scene-bytes step m n =
     gather-same _ _ n (λ k h. sized-numbered (m .set) (k / across step (m .frame)) (k % across step (m .frame)) (due (tileMaps step m _ _)))

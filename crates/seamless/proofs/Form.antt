@@ -57,6 +57,7 @@ abbrev pub otherwise : Record → Bool
 otherwise r =
     finite (r .sigma) && finite (r .peak) && finite (r .s0) && finite (r .s1) && finite (r .s2) && finite (r .s3) && leb (r .octave) 5
     && (eqb (r .index) 1 || eqb (r .index) 2) && leb (r .polarity) 1 && eqb (r .spare) 0
+    && nearby (r .dx) && nearby (r .dy)
 
 readable-on : (rows cols : ℕ) (r : Record) → finite (r .x) ≡ true → finite (r .y) ≡ true → onSide cols (r .x) ≡ true → onSide rows (r .y) ≡ true
     → r .key < rows * cols → readable rows cols r ≡ otherwise r
@@ -101,6 +102,8 @@ module _ (s : Set) (th : Thresholds) (octave : ℕ) (nine : List (List Float)) (
     octave = octave;
     index = indexOf (s .sigmas) (ownSigma s nine isMax);
     max = isMax;
+    dx = leftRight;
+    dy = upDown;
   }
 
   refined : (row col : ℕ) → refineOf s (th .ratio) (cubicsAt s nine) (anchorOf row col (ownSigma s nine isMax) (ownPeak s nine isMax) octave isMax)

@@ -1,6 +1,7 @@
 -- A tile by itself, and calls of a scene. Definitions only.
 use Prim.Native.Nat.{ℕ, zero, suc, _+_, _*_, _≤_, _<_}
 use mathlib.Core.Path.{_≡_}
+use mathlib.Core.Bool.{false}
 use mathlib.Core.List.{List, [], _++_}
 use lib.ListN.{length, take, drop}
 use lib.Ieee.{Float}
@@ -12,7 +13,7 @@ use Rattle.samples.specs.Level.{Maps, Within}
 use Rattle.detect.specs.Detect as detect
 use Rattle.detect.specs.declared.Answer.the-variants as detected
 use Rattle.words.specs.Words.{halfBytes}
-use Rattle.join.specs.Sized.{sizedWidth}
+use Rattle.sized.specs.Sized.{sizedWidth}
 use Rattle.join.specs.Join as join
 use Rattle.join.specs.declared.Joined.the-variants.{Count}
 use Rattle.pixel.specs.declared.Frame.{Frame}
@@ -45,7 +46,7 @@ withNumbers i j (suc n) b = (halfBytes i ++ (halfBytes j ++ take sizedWidth b)) 
 pub record Alone (s : Set) (th : Thresholds) (h w octave : ℕ) (l0 l1 l2 l3 : List Float) (rs : List Record) : Type 0 where
   pub detects : (b : List ℕ) → detect.detectOf s th h w octave l0 l1 l2 l3 b ≡ detect.outcome (detected.Found (length rs)) (laid rs b)
   pub joins : (b o : List ℕ) → length rs * spotWidth ≤ length b → length rs * sizedWidth ≤ length o
-      → join.joinOf s h w (take (length rs * spotWidth) (laid rs b)) o ≡ join.outcome (Count (length rs)) (front (join.sizedAll s rs) o)
+      → join.joinOf s h w (take (length rs * spotWidth) (laid rs b)) o ≡ join.outcome (Count (length rs)) (front (join.sizedAll false s rs) o)
 
 -- ---- calls
 

@@ -6,7 +6,7 @@ use Rattle.tables.specs.declared.Set.{Set}
 use Rattle.record.specs.declared.Record.{Record}
 use Rattle.pixel.specs.declared.Frame.{Frame}
 use Rattle.size.specs.declared.Corrected.{Corrected}
-use Rattle.join.specs.Sized.{sizeOf}
+use Rattle.sized.specs.Sized.{sizeOf}
 use Rattle.samples.specs.Level.{Maps}
 use Rattle.detect.specs.Due.{due}
 use Rattle.tiles.specs.Tiles.{startOf, lengthOf}
@@ -26,6 +26,8 @@ pub record Sight : Type 0 where
   pub s3 : Float
   pub octave : ℕ
   pub index : ℕ
+  pub dx : Float
+  pub dy : Float
   -- the corrected sigma, or why there is none
   pub size : Corrected
 
@@ -43,6 +45,8 @@ sightOf s row col r = record {
   s3 = r .s3;
   octave = r .octave;
   index = r .index;
+  dx = r .dx;
+  dy = r .dy;
   size = sizeOf s r;
 }
 

@@ -21,7 +21,7 @@ fn is_placed(w: [f32; 5], is_max: bool) -> bool
     let dx = place::delta_x(w, dy);
     !(place::denominator(w) < 1e-10)
         & (!(float::abs(w[0]) < 1e-10)
-            & (place::is_steep(w, is_max) & (place::is_nearby(dx) & place::is_nearby(dy))))
+            & (place::is_steep(w, is_max) & (moves::is_nearby(dx) & moves::is_nearby(dy))))
 }
 
 // The refinement accepts a spot with this sigma and polarity.

@@ -1,12 +1,12 @@
 -- The spatial fit of nine values, and the displacement that it gives. Definitions only.
 use Prim.Native.Nat.{ℕ, zero, suc, _+_, _*_}
 use mathlib.Core.List.{List, [], _∷_}
-use mathlib.Core.Bool.{Bool, cond, not, _&&_}
+use mathlib.Core.Bool.{Bool, cond, _&&_}
 use lib.Dec.{eqb}
 use lib.ListN.{getD}
-use lib.Ieee.{Float, lt, le, neg}
-use Rattle.float.specs.Small.{finite, absOf}
-use Rattle.float.specs.Num.{_⊕_, _⊖_, _⊗_, _⊘_, f2, f4, f0·6}
+use lib.Ieee.{Float, le, neg}
+use Rattle.float.specs.Small.{finite}
+use Rattle.float.specs.Num.{_⊕_, _⊖_, _⊗_, _⊘_, f2, f4}
 use Rattle.tables.specs.declared.Set.{Set}
 use Rattle.fit.specs.Cubic.{_at_, bendsOf}
 use Rattle.fit.specs.Prims.{Prims, ours}
@@ -55,7 +55,3 @@ deltaYOf w = (w at 2 ⊗ w at 3 ⊖ f2 ⊗ w at 0 ⊗ w at 4) ⊘ denominatorOf 
 -- the displacement along a row
 unfoldable pub deltaXOf : List Float → Float → Float
 deltaXOf w dy = (neg (w at 3) ⊖ w at 2 ⊗ dy) ⊘ (f2 ⊗ w at 0)
-
--- a displacement passes: finite, and not above 0.6 in size
-unfoldable pub nearby : Float → Bool
-nearby d = finite d && not (lt f0·6 (absOf d))

@@ -4,7 +4,7 @@ ghost use Prim.Native.Nat.{ℕ, _<_, _≤_, _+_, _*_};
 ghost use lib.ListN.{getD};
 ghost use Rattle.float.specs.Num.{_⊗_, f0};
 ghost use Rattle.fit.specs.Cubic.{_at_};
-ghost use Rattle.spatial.specs.Place.{indexOf, blockOf, sumFrom, spatialOf, denominatorOf, steepOf, deltaYOf, deltaXOf, nearby};
+ghost use Rattle.spatial.specs.Place.{indexOf, blockOf, sumFrom, spatialOf, denominatorOf, steepOf, deltaYOf, deltaXOf};
 use fit::scale_fit::bends;
 use tables::Set;
 
@@ -116,11 +116,4 @@ pub fn delta_x(w: [f32; 5], dy: f32) -> f32
     ensures { λ r. ⌜ r ≡ deltaXOf w dy ⌝ }
 {
     (-w[3] - w[2] * dy) / (2.0 * w[0])
-}
-
-// A displacement passes, at exactly 0.6 too.
-pub fn is_nearby(d: f32) -> bool
-    ensures { λ r. ⌜ r ≡ nearby d ⌝ }
-{
-    float::is_finite(d) & !(float::abs(d) > 0.6)
 }

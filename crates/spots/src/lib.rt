@@ -11,7 +11,11 @@ ghost use Rattle.ring.specs.Ring.{pixelSpots, columnSpots, judges};
 ghost use Rattle.ring.specs.Lent.{Lent, heightOf, Ruled};
 ghost use Rattle.spots.specs.Marked.{markedOf};
 use pixel::Frame;
+use record::SPOT_WIDTH;
 use ring::State;
+
+// The bytes of two records, as many as a pixel lists at most.
+const TWO_WIDE: usize = 2 * SPOT_WIDTH;
 
 // A column is judged when the given one is two further.
 fn is_judging(s: State) -> bool
@@ -232,8 +236,8 @@ pub fn is_roomy<'a>(
         (fourOf (now (r0 .entry)) (now (r1 .entry)) (now (r2 .entry)) (now (r3 .entry)))
         (fourOf (now (c0 .entry)) (now (c1 .entry)) (now (c2 .entry)) (now (c3 .entry))) (s .position - 2) n) * spotWidth) room ⌝ }
 {
-    if marked(n, marks) * 80 <= room {
+    if marked(n, marks) * TWO_WIDE <= room {
         return true;
     }
-    count(r0, r1, r2, r3, c0, c1, c2, c3, s, n, marks) * 40 <= room
+    count(r0, r1, r2, r3, c0, c1, c2, c3, s, n, marks) * SPOT_WIDTH <= room
 }

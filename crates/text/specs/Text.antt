@@ -25,7 +25,7 @@ lineOf b = hexOf b ++ (10 ∷ [])
 
 -- how many bytes a record's line has: two digits for each of the record's, and the line's end
 abbrev pub lineWidth : ℕ
-lineWidth = 81
+lineWidth = 2 * spotWidth + 1
 
 -- records' bytes as hex digits, a line for each
 unfoldable pub linesOf : List Record → List ℕ

@@ -19,6 +19,7 @@ use Rattle.demands.specs.List.{StandsAt}
 use Rattle.demands.proofs.Held.{list-held}
 use Rattle.demands.proofs.Accepted.{join-accepts}
 use Rattle.words.proofs.Parts.{sets-over}
+use Rattle.sized.proofs.HomeLaws.{home-placed}
 use Rattle.tile.specs.Numbered.{numberedWidth, tileBytes}
 use Rattle.tile.specs.Tile.{Small, foundIn, recordsIn, Stand, filling, fillOf, Fits}
 use Rattle.tile.specs.declared.Filled.the-variants.{WholeTile, Full}
@@ -92,19 +93,17 @@ module _ (s : Set) (th : Thresholds) (h w octave : ℕ) (l0 l1 l2 l3 : List Floa
       there : (k : ℕ) (d : Record) → k < n → recordFrom o1 (base + 16 * n + spotWidth * k) ≡ getD found k d
       there k d b = let f = fits-all in rw is (record-there found out (base + 16 * n) (omega arith) held k d (omega arith))
 
-      pub stand : Stand s h w i j o1 base n
+      pub stand : Stand i j o1 base n
       stand =
           let f = fits-all in
           record {
-            is-good = p .is-good;
-            tall = p .tall;
-            wide = p .wide;
             down = q .down;
             right = q .right;
             place = rw (ap length is ∙ length-sets out (base + 16 * n) (bytesOf found)) f;
-            reads = λ k b.
+            placed = λ k b.
                 let d : Record = recordFrom o1 (base + 16 * n + spotWidth * k) in
-                ap (readable h w) (there k d b) ∙ join-accepts maps (getD found k d) (record { place = k; there = stands-at found k d (omega arith) });
+                home-placed h w d (p .tall) (p .wide)
+                (ap (readable h w) (there k d b) ∙ join-accepts maps (getD found k d) (record { place = k; there = stands-at found k d (omega arith) }));
           }
 
       pub fill-whole : (o2 : List ℕ) → o2 ≡ sets o1 base (tileBytes s i j (recordsIn o1 (base + 16 * n) n)) → filling (WholeTile (done + n)) o2 ≡ fillOf s i j found done out

@@ -7,7 +7,7 @@ use lib.ListN.{length, length-append}
 use Rattle.tables.specs.declared.Set.{Set}
 use Rattle.record.specs.declared.Record.{Record}
 use Rattle.words.specs.Words.{halfBytes}
-use Rattle.join.proofs.SizedLaws.{length-sizedBytes}
+use Rattle.sized.proofs.SizedLaws.{length-sizedBytes}
 use Rattle.tile.specs.Numbered.{numberedWidth, Numbered, numbered, numberedBytes, allBytes, tileBytes}
 
 pub length-numbered : (s : Set) (p : Numbered) → length (numberedBytes s p) ≡ numberedWidth

@@ -4,19 +4,18 @@ use native.Mathlib.Numerals.{add-one}
 use native.Mathlib.Omega.{arith}
 use mathlib.Core.Path.{_≡_, refl, sym, ap, _∙_}
 use mathlib.Core.List.{List, _++_, append-nil, append-assoc}
-use lib.ListN.{length, take, drop, length-append, length-take, length-drop, take-append-drop}
+use lib.ListN.{length, take, drop, length-append, take-append-drop}
 use lib.Seq.{sets, length-sets, sets-eq, drop-drop}
 use Rattle.tables.specs.declared.Set.{Set}
 use Rattle.record.specs.declared.Record.{Record}
 use Rattle.record.specs.Layout.{spotWidth, recordFrom}
-use Rattle.record.specs.Readable.{readable}
-use Rattle.record.proofs.Converse.{record-own, same-bytes-same-record}
+use Rattle.record.proofs.Converse.{same-bytes-same-record}
 use Rattle.words.specs.Words.{halfBytes}
-use Rattle.join.specs.Sized.{sizedBytes}
+use Rattle.sized.specs.Sized.{sizedBytes}
 use Rattle.words.proofs.Stores.{sets-append}
 use Rattle.words.proofs.Parts.{take-sets, drop-sets}
 use Rattle.tile.specs.Numbered.{numberedWidth, numbered, numberedBytes, allBytes, tileBytes}
-use Rattle.tile.specs.Tile.{recordsIn, Single, Sizes}
+use Rattle.tile.specs.Tile.{recordsIn}
 use Rattle.tile.proofs.NumberedLaws.{length-numbered, length-tileBytes, tile-snoc}
 
 -- ---- one record
@@ -30,18 +29,6 @@ numbered-parts s i j r out to a b c =
     let f : to + 2 + length (halfBytes j) ≡ to + 4 = unfold halfBytes in omega arith in
     rw (c, b, a, ← f, ← e)
     (sym (sets-append (halfBytes i) (halfBytes j ++ sizedBytes s r) out to ∙ sets-append (halfBytes j) (sizedBytes s r) (sets out to (halfBytes i)) (to + length (halfBytes i))))
-
--- a record's bytes, taken out of the output, are one that the join takes
-pub sizes-single : {s : Set} {h w i j : ℕ} {out : List ℕ} {from to : ℕ} (b : List ℕ) → Sizes s h w i j out from to → b ≡ take spotWidth (drop from out) → Single s h w b
-sizes-single {s} {h} {w} {i} {j} {out} {from} {to} b p e =
-    let source = p .source in
-    record {
-      is-good = p .is-good;
-      tall = p .tall;
-      wide = p .wide;
-      long = ap length e ∙ simp (length-take, length-drop) (omega arith);
-      reads = ap (λ (x : List ℕ). readable h w (recordFrom x 0)) e ∙ ap (readable h w) (record-own out from) ∙ p .reads;
-    }
 
 -- ---- all of them
 

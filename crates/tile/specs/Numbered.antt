@@ -4,11 +4,11 @@ use mathlib.Core.List.{List, [], _∷_, _++_, map}
 use Rattle.tables.specs.declared.Set.{Set}
 use Rattle.record.specs.declared.Record.{Record}
 use Rattle.words.specs.Words.{halfBytes}
-use Rattle.join.specs.Sized.{sizedBytes}
+use Rattle.sized.specs.Sized.{sizedBytes}
 
 -- how many bytes it has: two u16, and the sized record's
 abbrev pub numberedWidth : ℕ
-numberedWidth = 56
+numberedWidth = 64
 
 -- a record, and the numbers of the tile that lists it
 pub record Numbered : Type 0 where

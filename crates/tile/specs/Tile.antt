@@ -13,7 +13,7 @@ use Rattle.tables.specs.Set.{good}
 use Rattle.tables.specs.Refusal.{anyNan}
 use Rattle.record.specs.declared.Record.{Record}
 use Rattle.record.specs.Layout.{spotWidth, bytesOf, recordFrom}
-use Rattle.record.specs.Readable.{readable}
+use Rattle.sized.specs.Sized.{Placed}
 use Rattle.samples.specs.Level.{mapsOf}
 use Rattle.detect.specs.Due.{due}
 use Rattle.tile.specs.Numbered.{numberedWidth, tileBytes}
@@ -38,10 +38,10 @@ pub record Small (s : Set) (th : Thresholds) (h w octave n0 n1 n2 n3 : ℕ) : Ty
 abbrev pub foundIn : Set → Thresholds → ℕ → ℕ → ℕ → List Float → List Float → List Float → List Float → List Record
 foundIn s th h w octave l0 l1 l2 l3 = due (mapsOf l0 l1 l2 l3 (record { rows = h; cols = w; octave = octave }) s th)
 
--- n records are found, and where there are at most 3,276 the room held begins with them
+-- n records are found, and where there are at most 2,730 the room held begins with them
 pub record Holds (rs : List Record) (n : ℕ) (held : List ℕ) : Type 0 where
   pub count : n ≡ length rs
-  pub begins : n ≤ 3276 → take (n * spotWidth) held ≡ bytesOf rs
+  pub begins : n ≤ 2730 → take (n * spotWidth) held ≡ bytesOf rs
 
 -- ---- what it leaves in the output
 
@@ -73,31 +73,17 @@ unfoldable pub recordsIn : List ℕ → ℕ → ℕ → List Record
 recordsIn b at zero = []
 recordsIn b at (suc n) = recordsIn b at n ++ (recordFrom b (at + spotWidth * n) ∷ [])
 
--- b is one record's bytes, which the join takes for a map of h by w
-pub record Single (s : Set) (h w : ℕ) (b : List ℕ) : Type 0 where
-  pub is-good : good s ≡ true
-  pub tall : h ≤ 4096
-  pub wide : w ≤ 4096
-  pub long : length b ≡ spotWidth
-  pub reads : readable h w (recordFrom b 0) ≡ true
-
--- the record at from may be sized into the place at to, for a tile of h by w with the numbers i and j
-pub record Sizes (s : Set) (h w i j : ℕ) (out : List ℕ) (from to : ℕ) : Type 0 where
-  pub is-good : good s ≡ true
-  pub tall : h ≤ 4096
-  pub wide : w ≤ 4096
+-- the record at from may be sized into the place at to, with the tile's numbers i and j
+pub record Sizes (i j : ℕ) (out : List ℕ) (from to : ℕ) : Type 0 where
   pub down : i < 2 ^ 16
   pub right : j < 2 ^ 16
   pub source : from + spotWidth ≤ length out
   pub place : to + numberedWidth ≤ length out
-  pub reads : readable h w (recordFrom out from) ≡ true
+  pub placed : Placed (recordFrom out from)
 
 -- n records stand at the end of the place that they need, sized and numbered, from base on
-pub record Stand (s : Set) (h w i j : ℕ) (out : List ℕ) (base n : ℕ) : Type 0 where
-  pub is-good : good s ≡ true
-  pub tall : h ≤ 4096
-  pub wide : w ≤ 4096
+pub record Stand (i j : ℕ) (out : List ℕ) (base n : ℕ) : Type 0 where
   pub down : i < 2 ^ 16
   pub right : j < 2 ^ 16
   pub place : base + numberedWidth * n ≤ length out
-  pub reads : (k : ℕ) → k < n → readable h w (recordFrom out (base + 16 * n + spotWidth * k)) ≡ true
+  pub placed : (k : ℕ) → k < n → Placed (recordFrom out (base + 16 * n + spotWidth * k))

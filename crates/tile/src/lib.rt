@@ -9,7 +9,7 @@ use tables::Set;
 use tables::Thresholds;
 
 // How many bytes a numbered record has: two u16, and the sized record's.
-pub const NUMBERED_WIDTH: usize = 56;
+pub const NUMBERED_WIDTH: usize = 64;
 
 // How many bytes a numbered record has more than a spot's.
 const MORE: usize = 16;
@@ -63,6 +63,6 @@ pub fn fill<'a>(
         base + MORE * n,
         n,
     );
-    place::place_all(set, h, w, i, j, out, base, n);
+    place::place_all(set, i, j, out, base, n);
     Filled::WholeTile(done + n)
 }

@@ -11,7 +11,7 @@ use tables::Set;
 use tables::Thresholds;
 
 // How many records the room held has place for.
-const HELD: usize = 3276;
+const HELD: usize = 2730;
 
 // How many records a tile lists; those that have room are written to held.
 pub fn found<'a>(

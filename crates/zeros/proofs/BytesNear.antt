@@ -16,7 +16,7 @@ use Rattle.float.proofs.Floats.{zero-eq-zero}
 use Rattle.fit.specs.Near.{Near, same, zeros}
 use Rattle.record.specs.declared.Record.{Record}
 use Rattle.words.specs.Words.{wordBytes, floatBytes}
-use Rattle.record.specs.Layout.{spotWidth, floats4, recordBytes, bytesOf, laid}
+use Rattle.record.specs.Layout.{spotWidth, floats4, oldBytes, recordBytes, bytesOf, laid}
 use Rattle.record.proofs.LayoutLaws.{length-recordBytes, length-bytesOf}
 use Rattle.samples.specs.Level.{Maps}
 use Rattle.detect.specs.Due.{due}
@@ -32,7 +32,7 @@ signed false = 0
 
 -- a record whose peak is a zero, by the record whose peak is +0
 zero-peak : (r : Record) (s : Bool) → recordBytes (withPeak r (fin s 0 (pos 0))) ≡ set (recordBytes (withPeak r (fin false 0 (pos 0)))) 15 (signed s)
-unfolding withPeak signed recordBytes floats4 floatBytes wordBytes toBits size span climb
+unfolding withPeak signed recordBytes oldBytes floats4 floatBytes wordBytes toBits size span climb
 zero-peak r true = refl
 zero-peak r false = refl
 

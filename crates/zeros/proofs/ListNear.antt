@@ -40,7 +40,7 @@ place~ (more e h) (suc i) r l = place~ h i r (le-of-suc-le-suc l)
 
 pub with-peak~ : {a b : Record} → RecordNear a b → (v : Float) → withPeak a v ≡ withPeak b v
 unfolding withPeak
-with-peak~ R v = rw (R .x, R .y, R .sigma, R .s0, R .s1, R .s2, R .s3, R .key, R .octave, R .index, R .polarity, R .spare)
+with-peak~ R v = rw (R .x, R .y, R .sigma, R .s0, R .s1, R .s2, R .s3, R .key, R .octave, R .index, R .polarity, R .spare, R .dx, R .dy)
 
 -- equal but for the peaks: the same keys, polarities, places, sigmas and samples
 pub peakless~ : {a b : List Record} → RecordsNear a b → peakless a ≡ peakless b

@@ -3,11 +3,14 @@ use mathlib.Core.Path.{_≡_, refl}
 use Prim.Native.Nat.{ℕ, zero, suc, _+_, _*_}
 use mathlib.Core.List.{List, []}
 use mathlib.Core.Bool.{Bool, true, false, cond, _&&_}
+use lib.IntN.{pos}
 use lib.ListN.{getD}
 use lib.Ieee.{Float}
 use Rattle.tables.specs.declared.Set.{Set}
 use Rattle.tables.specs.declared.Thresholds.{Thresholds}
-use Rattle.fit.specs.Near.{Near, same}
+use Rattle.float.proofs.Floats.{zero-eq-zero}
+use Rattle.moves.specs.Moves.{keptOf}
+use Rattle.fit.specs.Near.{Near, same, zeros}
 use Rattle.fit.specs.Prims.{Prims, Allowed, ours}
 use Rattle.fit.specs.Cubic.{_at_}
 use Rattle.fit.specs.Band.{bandBy}
@@ -55,6 +58,12 @@ module _ (P : ℕ → Prims) (A : (i : ℕ) → Allowed (P i)) where
 
 -- ---- the record
 
+-- a zero's sign is not kept in a displacement
+kept~ : {d d' : Float} → Near d d' → keptOf d ≡ keptOf d'
+unfolding keptOf
+kept~ same = refl
+kept~ (zeros {s = s} {t = t}) = rw (zero-eq-zero s (pos 0), zero-eq-zero t (pos 0))
+
 record~ : {a b : Spot} (l : List Float) (key : ℕ) → SpotNear a b → RecordNear (recordOf a l key) (recordOf b l key)
 unfolding recordOf
 record~ l key S = record {
@@ -71,12 +80,14 @@ record~ l key S = record {
   index = S .index;
   polarity = rw (S .max);
   spare = refl;
+  dx = kept~ (S .dx);
+  dy = kept~ (S .dy);
 }
 
 -- the join reads both or neither
 pub readable~ : (rows cols : ℕ) {a b : Record} → RecordNear a b → readable rows cols a ≡ readable rows cols b
 unfolding readable finiteRecord
-readable~ rows cols R = rw (R .x, R .y, R .sigma, fin~ (R .peak), R .s0, R .s1, R .s2, R .s3, R .key, R .octave, R .index, R .polarity, R .spare)
+readable~ rows cols R = rw (R .x, R .y, R .sigma, fin~ (R .peak), R .s0, R .s1, R .s2, R .s3, R .key, R .octave, R .index, R .polarity, R .spare, R .dx, R .dy)
 
 admit~ : (f : Frame) (l : List Float) (key : ℕ) {a b : Refined} → RefinedNear a b → VerdictNear (admitOf f l key a) (admitOf f l key b)
 unfolding admitOf
@@ -85,7 +96,7 @@ admit~ f l key (accepted S) = let R = record~ l key S in chosen~ VerdictNear (re
 
 anchor~ : (row col : ℕ) (sigma : Float) {v v' : Float} (octave : ℕ) (isMax : Bool) → Near v v' → SpotNear (anchorOf row col sigma v octave isMax) (anchorOf row col sigma v' octave isMax)
 unfolding anchorOf
-anchor~ row col sigma octave isMax h = record { x = refl; y = refl; sigma = refl; peak = h; octave = refl; index = refl; max = refl }
+anchor~ row col sigma octave isMax h = record { x = refl; y = refl; sigma = refl; peak = h; octave = refl; index = refl; max = refl; dx = same; dy = same }
 
 -- ---- the whole
 

@@ -52,6 +52,8 @@ module _ {a b : Spot} (S : SpotNear a b) (x-steady : Steady (a .x)) (y-steady : 
         octave = S .octave;
         index = refl;
         max = S .max;
+        dx = h;
+        dy = k;
       }))
       rejected
 

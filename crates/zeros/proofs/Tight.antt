@@ -14,10 +14,11 @@ use Rattle.fit.specs.Cubic.{rowOf, coeffsOf, hornerOf, discriminantOf, curvatur
 use Rattle.fit.specs.Envelope.{within, endsBy, putLow, putHigh, turnOf, firstOf, secondOf, turnsOf, shapeBy}
 use Rattle.fit.specs.Band.{bandBy, finiteCubic, signOf, stationaryOf, betterBy, extremeBy}
 use Rattle.fit.specs.Owns.{ownsBy}
+use Rattle.moves.specs.Moves.{keptOf}
 use Rattle.refine.specs.Refine.{valueOf, valuesOf, edgeOf, indexOf, sumFrom, blockOf, termOf, rowSumBy, spatialBy, denominatorOf, steepOf, deltaYOf, deltaXOf, nearby, placedOf, movedOf, refineBy}
 use Rattle.record.specs.Readable as Readable
 use Rattle.words.specs.Words.{wordBytes, floatBytes}
-use Rattle.record.specs.Layout.{spotWidth, floats4, recordBytes, bytesOf}
+use Rattle.record.specs.Layout.{spotWidth, floats4, oldBytes, recordBytes, bytesOf}
 use Rattle.pixel.specs.Gate.{sigmaOf, peakOf, strongOf, curvedOf, gateBy}
 use Rattle.pixel.specs.Ring.{allOf, beatsBy, ringBy}
 use Rattle.pixel.specs.Verdict.{cubicsOf, wholePlace, wholeOf, anchorOf, polarityOf, recordOf, admitOf, verdictBy}
@@ -46,5 +47,5 @@ bowl-good = refl
 
 -- both list one spot; the sign byte of its peak is 0 with this build's zeros, and 128 where min gives -0
 pub sign-differs : ((length (pitBytes allOurs) ≡ spotWidth) × (getD (pitBytes allOurs) 15 0 ≡ 0)) × ((length (pitBytes darkMin) ≡ spotWidth) × (getD (pitBytes darkMin) 15 0 ≡ 128))
-unfolding darkened darkMin bowlSet lenient flatLevel pointLevel pitLevel pitMaps pitBytes values sigmasT cubicT row blockT numbersT setT rowOf coeffsOf hornerOf discriminantOf curvatureOf within endsBy putLow putHigh turnOf firstOf secondOf turnsOf shapeBy bandBy finiteCubic signOf stationaryOf betterBy extremeBy ownsBy valueOf valuesOf edgeOf indexOf sumFrom blockOf termOf rowSumBy spatialBy denominatorOf steepOf deltaYOf deltaXOf nearby placedOf movedOf refineBy Readable.finiteRecord Readable.within Readable.onSide Readable.readable wordBytes floatBytes floats4 recordBytes bytesOf sigmaOf peakOf strongOf curvedOf gateBy allOf beatsBy ringBy cubicsOf wholePlace wholeOf anchorOf polarityOf recordOf admitOf verdictBy pixelAt stencilOf sampleAt samplesOf placesOf listed judgeBy pixelDueBy rowDueBy rowsDueBy dueBy finite absOf minOf maxOf sqrtOf lt le eq neg add sub mul div isNan ofBits toBits ofInt
+unfolding darkened darkMin bowlSet lenient flatLevel pointLevel pitLevel pitMaps pitBytes values sigmasT cubicT row blockT numbersT setT rowOf coeffsOf hornerOf discriminantOf curvatureOf within endsBy putLow putHigh turnOf firstOf secondOf turnsOf shapeBy bandBy finiteCubic signOf stationaryOf betterBy extremeBy ownsBy valueOf valuesOf edgeOf indexOf sumFrom blockOf termOf rowSumBy spatialBy denominatorOf steepOf deltaYOf deltaXOf nearby keptOf placedOf movedOf refineBy Readable.finiteRecord Readable.within Readable.onSide Readable.readable wordBytes floatBytes floats4 oldBytes recordBytes bytesOf sigmaOf peakOf strongOf curvedOf gateBy allOf beatsBy ringBy cubicsOf wholePlace wholeOf anchorOf polarityOf recordOf admitOf verdictBy pixelAt stencilOf sampleAt samplesOf placesOf listed judgeBy pixelDueBy rowDueBy rowsDueBy dueBy finite absOf minOf maxOf sqrtOf lt le eq neg add sub mul div isNan ofBits toBits ofInt
 sign-differs = ((refl, refl), (refl, refl))

@@ -23,6 +23,8 @@ pub record RecordNear (a b : Record) : Type 0 where
   pub index : a .index ≡ b .index
   pub polarity : a .polarity ≡ b .polarity
   pub spare : a .spare ≡ b .spare
+  pub dx : a .dx ≡ b .dx
+  pub dy : a .dy ≡ b .dy
 
 -- two verdicts: both list nothing, or both list such records
 pub data VerdictNear : Verdict → Verdict → Type 0 where
@@ -50,6 +52,8 @@ withPeak r v = record {
   index = r .index;
   polarity = r .polarity;
   spare = r .spare;
+  dx = r .dx;
+  dy = r .dy;
 }
 
 -- a list's records with every peak put to +0: all that they say but the peaks

@@ -25,7 +25,7 @@ pub record BandNear (a b : Band) : Type 0 where
 abbrev pub Steady : Float → Type 0
 Steady x = (y y' : Float) → Near y y' → x ⊕ y ≡ x ⊕ y'
 
--- two spots: each field equal, but the peaks equal or both zeros
+-- two spots: each field equal, but the peaks and the displacements equal or both zeros
 pub record SpotNear (a b : Spot) : Type 0 where
   pub x : a .x ≡ b .x
   pub y : a .y ≡ b .y
@@ -34,6 +34,8 @@ pub record SpotNear (a b : Spot) : Type 0 where
   pub octave : a .octave ≡ b .octave
   pub index : a .index ≡ b .index
   pub max : a .max ≡ b .max
+  pub dx : Near (a .dx) (b .dx)
+  pub dy : Near (a .dy) (b .dy)
 
 -- two answers of the refinement: both reject, or both accept such spots
 pub data RefinedNear : Refined → Refined → Type 0 where

@@ -1,48 +1,16 @@
--- `join` meets its contract, refusals and all.
+-- `join` meets its contract.
 use borrow.Author.Needs.{needs}
-use mathlib.Core.Path.{sym, _∙_}
-use Rattle.join.specs.Join.{joinOf, joined}
-use Rattle.join.proofs.CheckLaws.{checks-passed}
-use Rattle.join.proofs.HomeLaws.{passed-writable}
-use Rattle.join.proofs.SizedLaws.{stored-laid}
 use Rattle.join.proofs.join.Statement.{statement}
 use Rattle.join.proofs.join.Tie as tie
 
-checked-requires : tie.Need-checked-requires
-checked-requires c κs = search needs
-
-enum-known-check : tie.Need-enum-known-check
-enum-known-check c = search needs
-
-enum-told : tie.Need-enum-told
-enum-told c = search needs
-
-put-all-requires : tie.Need-put-all-requires
-put-all-requires c κs =
-    passed-writable _ _ _ _ _ (checks-passed _ _ _ _ _ (sym (c .before .before .before .checked .ensures) ∙ c .before .enum-told .given .1))
-
-returns : tie.Need-returns
-unfolding joinOf joined
-returns c = rw (← c .before .before .before .checked .ensures, c .before .check .given .1)
+join-by-requires : tie.Need-join-by-requires
+join-by-requires c κs = search needs
 
 same-length : tie.Need-same-length
 same-length c = search needs
 
-returns-2 : tie.Need-returns-2
-unfolding joinOf joined
-returns-2 c =
-    let fine = sym (c .before .before .before .before .before .before .checked .ensures) ∙ c .before .before .before .before .enum-told .given .1 in
-    let put = c .before .before .put-all .ensures in
-    rw (fine, put .0, put .1, stored-laid _ _ _ (checks-passed _ _ _ _ _ fine .room-enough))
+returns : tie.Need-returns
+returns c = c .before .before .join-by .ensures
 
 pub join-spec : {M : Type 1} → statement M
-join-spec =
-    tie.close
-    (tie.spec
-    checked-requires
-    enum-known-check
-    enum-told
-    put-all-requires
-    returns
-    same-length
-    returns-2)
+join-spec = tie.close (tie.spec join-by-requires same-length returns)

@@ -45,7 +45,7 @@ returns : tie.Need-returns
 returns c =
     let e = rw (c .before .before .before .before .before .before .before .answer .given .1) at (c .before .before .before .before .before .before .before .before .before .before .detect-from .ensures) in
     let lines = rw (c .before .before .before .before .before .shown .ensures) at (c .before .before .put-lines .ensures .0) in
-    rw (tile-found _ _ _ (length-replicate {A = ℕ} 64000 0) e) at (wrote-begins (wrote-append lines (c .put-found .ensures)))
+    rw (tile-found _ _ _ (length-replicate {A = ℕ} 62400 0) e) at (wrote-begins (wrote-append lines (c .put-found .ensures)))
 
 returns-2 : tie.Need-returns-2
 returns-2 c =

@@ -25,13 +25,20 @@ as-usize-requires c κs = search needs
 mul-result : tie.Need-mul-result
 mul-result c = record { fits = area-fits (c .before .before .before .before .args .rows) (c .before .before .before .before .args .cols) (c .before .before .before .before .pre .0) (c .before .before .before .before .pre .1) }
 
+is-nearby-requires : tie.Need-is-nearby-requires
+is-nearby-requires c κs = search needs
+
+is-nearby-requires-2 : tie.Need-is-nearby-requires-2
+is-nearby-requires-2 c κs = search needs
+
 returns : tie.Need-returns
 unfolding readable
 returns c =
-    let key = c .before .before .before .before .before in
+    let near = c .before in
+    let key = near .before .before .before .before .before .before in
     let y = key .before in
     let x = y .before in
-    rw (← x .before .is-finite-record .ensures, ← x .is-on-side .ensures, ← y .is-on-side2 .ensures, ← key .as-usize .ensures)
+    rw (← x .before .is-finite-record .ensures, ← x .is-on-side .ensures, ← y .is-on-side2 .ensures, ← key .as-usize .ensures, ← near .is-nearby .ensures, ← c .is-nearby2 .ensures)
 
 pub is-readable-spec : {M : Type 1} → statement M
 is-readable-spec =
@@ -42,4 +49,6 @@ is-readable-spec =
     is-on-side-requires-2
     as-usize-requires
     mul-result
+    is-nearby-requires
+    is-nearby-requires-2
     returns)

@@ -4,47 +4,39 @@ use Rattle.record.proofs.LayoutLaws.{recordBytes-parts}
 use Rattle.record.proofs.put_record.Statement.{statement}
 use Rattle.record.proofs.put_record.Tie as tie
 
-put-floats-requires : tie.Need-put-floats-requires
-put-floats-requires c κs = search needs
+put-old-requires : tie.Need-put-old-requires
+put-old-requires c κs = search needs
 
-add-put-floats : tie.Need-add-put-floats
-add-put-floats c = search needs
+add-put-float : tie.Need-add-put-float
+add-put-float c = search needs
 
-put-floats-requires-2 : tie.Need-put-floats-requires-2
-put-floats-requires-2 c κs = search needs
+put-float-requires : tie.Need-put-float-requires
+put-float-requires c κs = search needs
 
-add-put-word : tie.Need-add-put-word
-add-put-word c = search needs
+add-put-float-2 : tie.Need-add-put-float-2
+add-put-float-2 c = search needs
 
-put-word-requires : tie.Need-put-word-requires
-put-word-requires c κs = search needs
-
-add-put-bytes : tie.Need-add-put-bytes
-add-put-bytes c = search needs
-
-put-bytes-requires : tie.Need-put-bytes-requires
-put-bytes-requires c κs = search needs
+put-float-requires-2 : tie.Need-put-float-requires-2
+put-float-requires-2 c κs = search needs
 
 same-length : tie.Need-same-length
 same-length c = search needs
 
 returns : tie.Need-returns
 returns c =
-    let word = c .before .before .before .before .before .before in
-    let samples = word .before .before .before .before in
-    let place = samples .before .before .before .before in
-    recordBytes-parts _ (place .before .before .before .args .at) (place .before .before .before .args .r) (place .put-floats .ensures) (samples .put-floats2 .ensures) (word .put-word .ensures) (c .before .before .put-bytes .ensures)
+    let last = c .before .before in
+    let first = last .before .before .before .before in
+    let front = first .before .before .before .before in
+    recordBytes-parts _ (front .before .before .before .args .at) (front .before .before .before .args .r) (front .put-old .ensures) (first .put-float .ensures) (last .put-float2 .ensures)
 
 pub put-record-spec : {M : Type 1} → statement M
 put-record-spec =
     tie.close
     (tie.spec
-    put-floats-requires
-    add-put-floats
-    put-floats-requires-2
-    add-put-word
-    put-word-requires
-    add-put-bytes
-    put-bytes-requires
+    put-old-requires
+    add-put-float
+    put-float-requires
+    add-put-float-2
+    put-float-requires-2
     same-length
     returns)

@@ -19,6 +19,12 @@ array-read-t16 c = search needs
 polarity-of-requires : tie.Need-polarity-of-requires
 polarity-of-requires c κs = search needs
 
+kept-requires : tie.Need-kept-requires
+kept-requires c κs = search needs
+
+kept-requires-2 : tie.Need-kept-requires-2
+kept-requires-2 c κs = search needs
+
 returns : tie.Need-returns
 unfolding recordOf
 returns c = cc
@@ -32,4 +38,6 @@ record-of-spec =
     array-read-t13
     array-read-t16
     polarity-of-requires
+    kept-requires
+    kept-requires-2
     returns)

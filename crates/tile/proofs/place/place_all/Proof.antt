@@ -1,17 +1,16 @@
 -- `place::place_all` meets its contract. The loop's invariant: Going.
 use native.Mathlib.Omega.{arith}
 use Prim.Native.Nat.{_-_, _≤_}
-use mathlib.Core.Path.{_≡_, ap, _∙_}
-use Rattle.record.specs.Readable.{readable}
+use mathlib.Core.Path.{_≡_}
 use Rattle.tile.proofs.PlaceLaws.{Going, going-start, reads-next, going-next, going-end}
 use Rattle.tile.proofs.place.place_all.Statement.{statement}
 use Rattle.tile.proofs.place.place_all.Tie as tie
 
 abbrev Inv-loop : tie.InvT-loop
-Inv-loop set h w i j out₀ base n k₀ out k = (k ≤ n) × Going set i j out₀ out base n k
+Inv-loop set i j out₀ base n k₀ out k = (k ≤ n) × Going set i j out₀ out base n k
 
 abbrev μ-loop : tie.MeasureT-loop
-μ-loop set h w i j out₀ base n k₀ out k = n - k
+μ-loop set i j out₀ base n k₀ out k = n - k
 
 loop-holds : tie.Need-loop-holds Inv-loop μ-loop
 loop-holds c = (omega arith, going-start (c .before .args .set) (c .before .args .i) (c .before .args .j) (c .before .args .out .now) (c .before .args .base) (c .before .args .n))
@@ -44,14 +43,11 @@ place-record-requires c κs =
     let long = l .inv .1 .long in
     let below = c .before .loop-test .taken in
     record {
-      is-good = p .is-good;
-      tall = p .tall;
-      wide = p .wide;
       down = p .down;
       right = p .right;
       source = omega arith;
       place = omega arith;
-      reads = ap (readable (a .h) (a .w)) (reads-next (a .set) (a .i) (a .j) (a .out .now) (a .base) (a .n) (l .out) (l .k) (l .inv .1)) ∙ p .reads (l .k) below;
+      placed = rw (reads-next (a .set) (a .i) (a .j) (a .out .now) (a .base) (a .n) (l .out) (l .k) (l .inv .1)) (p .placed (l .k) below);
     }
 
 add-k : tie.Need-add-k Inv-loop μ-loop

@@ -1,0 +1,2 @@
+-- How far a spot is moved.
+pub mod Moves

@@ -1,0 +1,2 @@
+-- The join as it was.
+pub mod Before

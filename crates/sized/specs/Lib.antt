@@ -1,0 +1,2 @@
+-- A sized record.
+pub mod Sized
