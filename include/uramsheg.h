@@ -12,21 +12,26 @@
  * min, max, blend beta, boost, compatibility lower, upper, move cap), all f32; 9 sample-order bytes; 3 zero bytes. It is good when all 129 floats are
  * finite, the sigmas are positive and strictly rising, the cap is not below 0, each order byte is under 9 and the spare bytes are 0.
  *
- * A spot record (40 bytes, little-endian):
+ * A spot record (48 bytes, little-endian):
  *   0 x, 4 y, 8 sigma, 12 peak, 16 20 24 28 the four centre samples (f32 each); 32 order key u32 (row * cols + col of the spot's own pixel);
- *   36 octave, 37 scale index (1 or 2), 38 polarity (1 maximum, 0 minimum), 39 zero
+ *   36 octave, 37 scale index (1 or 2), 38 polarity (1 maximum, 0 minimum), 39 zero; 40 delta x, 44 delta y (f32 each)
+ * The deltas are how far detection moved the spot from its own pixel, as computed; where it is 0, +0.0. x is the pixel's col plus delta x, rounded once, and y
+ * its row plus delta y. At a large x the rounding spoils the move: x less the col is delta x only nearly.
  * A record is bad unless its floats are finite, x is 0 to cols-1, y 0 to rows-1, the key under rows*cols, octave to 5, index 1 or 2, polarity 0 or 1,
- * and the last byte 0. Detection writes no bad record.
+ * byte 39 0, and each delta at most the f32 0.6 (0x3f19999a) in size. A delta of -0.0 is fine; that x and y are the pixel plus the deltas is not checked.
+ * Detection writes no bad record.
  *
- * A sized record (52 bytes, little-endian): the spot record; 40 corrected sigma f32 (+0.0 where the spot has no size); 44 home row u16, 46 home col u16
- * (the pixel nearest to y and x, a half to the larger); 48 accepted (1 where there is a size, else 0); 49 cause (0 where there is a size, else why there is
- * none: 1 or 2, see URAMSHEG_NO_SIZE_POLARITY and URAMSHEG_NO_SIZE_RANGE); 50 51 zero
+ * A sized record (60 bytes, little-endian): the spot record; 48 corrected sigma f32 (+0.0 where the spot has no size); 52 home row u16, 54 home col u16
+ * (the pixel nearest to y and x, a half to the larger); 56 accepted (1 where there is a size, else 0); 57 cause (0 where there is a size, else why there is
+ * none: 1 or 2, see URAMSHEG_NO_SIZE_POLARITY and URAMSHEG_NO_SIZE_RANGE); 58 59 zero
  * Detection moves a spot by at most 0.6 of a pixel each way, so that its home pixel is its own or one of the eight around it.
+ *
+ * Lists from before there were deltas are of old spot records (40 bytes: the first 40 of a spot record); uramsheg_join_old sizes them.
  *
  * A worked case, map M: under the set that examples/detect.c builds, 9 rows by 10 cols, all 0 but pixel (4,4), 0.25 in level 0 and -0.25 in level 1,
  * thresholds 1, 1, 10, window 1.9027314 to 4.1498866, octave 0, the list is the one record
- *   00009040000080400000004000008040000080bf0000804000000000000000002c00000000010100
- * examples/detect.c prints it with its home pixel, (4,5), and its size.
+ *   00009040000080400000004000008040000080bf0000804000000000000000002c000000000101000000003f00000000
+ * examples/detect.c prints it with its move, half a pixel in x, its home pixel, (4,5), and its size.
  */
 #ifndef URAMSHEG_H
 #define URAMSHEG_H
@@ -39,10 +44,13 @@
 extern "C" {
 #endif
 
-enum { URAMSHEG_SET_BYTES = 528, URAMSHEG_SPOT_BYTES = 40, URAMSHEG_SIZED_BYTES = 52, URAMSHEG_FEED_BYTES = 564, URAMSHEG_RING_COLUMNS = 5 };
+enum { URAMSHEG_SET_BYTES = 528, URAMSHEG_SPOT_BYTES = 48, URAMSHEG_SIZED_BYTES = 60, URAMSHEG_FEED_BYTES = 564, URAMSHEG_RING_COLUMNS = 5 };
+
+/* The records from before there were deltas, which uramsheg_join_old reads and writes. */
+enum { URAMSHEG_OLD_SPOT_BYTES = 40, URAMSHEG_OLD_SIZED_BYTES = 52 };
 
 /* A scene: its records' bytes, its longest side, how far apart its tiles start, and how long they are. */
-enum { URAMSHEG_SCENE_BYTES = 56, URAMSHEG_SCENE_LONGEST = 16384, URAMSHEG_TILE_STEP = 4088, URAMSHEG_TILE_LENGTH = 4096 };
+enum { URAMSHEG_SCENE_BYTES = 64, URAMSHEG_SCENE_LONGEST = 16384, URAMSHEG_TILE_STEP = 4088, URAMSHEG_TILE_LENGTH = 4096 };
 
 /* What a call answers: 0, or why it was refused. Of the call's checks, in its order, the first that holds is answered; each call gives its order below,
  * and the numbers say nothing about it. */
@@ -61,7 +69,8 @@ enum {
     URAMSHEG_REFUSED_SCENE = 10      /* rows or cols of a scene above 16384: cut it into several */
 };
 
-/* Why a spot has no size: of the two, in this order, the first that holds. It stands in byte 49 of a sized record, and in *cause beside 7. */
+/* Why a spot has no size: of the two, in this order, the first that holds. It stands in byte 57 of a sized record, 49 of an old one, and in *cause
+ * beside 7. */
 enum {
     URAMSHEG_NO_SIZE_POLARITY = 1, /* at the spot's sigma its curve is not one of its polarity: bent the other way, too weakly, or not finite */
     URAMSHEG_NO_SIZE_RANGE = 2     /* it is, but the size that it leads to is beyond the fitted range, or not finite */
@@ -136,10 +145,20 @@ uint32_t uramsheg_feed_column(uint8_t *state, size_t state_length,
  * A size comes from the four samples, the sigma and the polarity in the spot's own record, and from nothing else; a home pixel from its y and x alone.
  * Answers 0 and the number of records in *value; bytes of `out` past the sized records are kept.
  * Refused (checked in the order 1, 4, 5 for the list's length, 5 for a record, 6), it answers the number and leaves `out` untouched; *value is 0, but
- * for 5: then it is the number of whole records where the list's length is no multiple of 40, else the index of the first bad record. The records of
- * uramsheg_detect for the same rows and cols are never refused with 5. */
+ * for 5: then it is the number of whole records where the list's length is no multiple of 48, else the index of the first bad record. The records of
+ * uramsheg_detect for the same rows and cols are never refused with 5. The deltas are kept byte for byte. */
 uint32_t uramsheg_join(const uint8_t *set, size_t set_length, size_t rows, size_t cols,
                        const uint8_t *list, size_t list_length, uint8_t *out, size_t out_length, uint64_t *value);
+
+/* Sizes the records of an old list, from before there were deltas: an old sized record for each, in the list's order, in `out`.
+ * An old spot record is the first 40 bytes of a spot record. An old sized record (52 bytes, little-endian): the old spot record; 40 corrected sigma f32;
+ * 44 home row u16, 46 home col u16; 48 accepted; 49 cause; 50 51 zero. These are what uramsheg_join gives; an old record has no delta, so that none is checked.
+ * A list's length alone does not say which kind it is: six old records are as long as five new ones.
+ * Answers 0 and the number of records in *value; bytes of `out` past the old sized records are kept.
+ * Refused (checked in the order 1, 4, 5 for the list's length, 5 for a record, 6), it answers the number and leaves `out` untouched; *value is 0, but
+ * for 5: then it is the number of whole records where the list's length is no multiple of 40, else the index of the first bad record. */
+uint32_t uramsheg_join_old(const uint8_t *set, size_t set_length, size_t rows, size_t cols,
+                           const uint8_t *list, size_t list_length, uint8_t *out, size_t out_length, uint64_t *value);
 
 /* A scene: the sized spots of four levels with sides to 16,384, cut into tiles. Each tile is copied, detected and joined as a map of its own.
  *
@@ -148,13 +167,13 @@ uint32_t uramsheg_join(const uint8_t *set, size_t set_length, size_t rows, size_
  * pixels with the one before it. The four pixels at a tile's sides are not judged in it, so that each pixel of the scene, but for the four at the scene's
  * own sides, is judged in exactly one tile.
  *
- * A scene's record (56 bytes, little-endian): 0 tile row u16, 2 tile col u16 (the tile's numbers k, not its first pixel); 4 the sized record, as
+ * A scene's record (64 bytes, little-endian): 0 tile row u16, 2 tile col u16 (the tile's numbers k, not its first pixel); 4 the sized record, as
  * uramsheg_join gives it for the tile.
  * x, y, order key and home pixel are the tile's own. In the scene x is 4088 * tile col + x and y is 4088 * tile row + y, both exact in a double, and the
  * pixel that the spot was found at is (4088 * tile row + key / w, 4088 * tile col + key % w), w the tile's cols.
- * All else is the scene's: sigma, peak, samples, octave, index, polarity, corrected sigma, accepted and cause are what uramsheg_detect and uramsheg_join would
- * give of the whole scene if they took it, each pixel and polarity once. Places are not: such a list would round what is x 4092.49999 here to the float
- * 4092.5, and give the spot another home.
+ * All else is the scene's: sigma, peak, samples, octave, index, polarity, deltas, corrected sigma, accepted and cause are what uramsheg_detect and
+ * uramsheg_join would give of the whole scene if they took it, each pixel and polarity once. Places are not: such a list would round what is x 4092.49999
+ * here to the float 4092.5, and give the spot another home.
  *
  * What is lent: four tile slices, one for each level, of at least min(rows, 4096) * min(cols, 4096) floats each, and `out`. Tiles go row by row: (0,0),
  * (0,1), .., then (1,0), .. A tile's levels are copied to the fronts of the slices by the tile's own rows: pixel (row, col) of a tile of h rows goes to
@@ -167,7 +186,7 @@ uint32_t uramsheg_join(const uint8_t *set, size_t set_length, size_t rows, size_
  * Past these checks, 6 is answered where a tile's records don't all fit in the rest of `out`: *value is the number of tiles before it, those without records
  * too; `out` begins with exactly their records and its later bytes are kept; the slices begin with the copy of the tile that did not fit. How many records
  * these are is not told: where `out` was filled with 0xff before the call, a tile row of 65535, which is none, shows where they end.
- * A tile of more than 3,276 spots is detected twice. The call takes at most some 384 KB of stack and no heap. The levels, the tile slices, `out` and `value`
+ * A tile of more than 2,730 spots is detected twice. The call takes at most some 384 KB of stack and no heap. The levels, the tile slices, `out` and `value`
  * must not overlap. */
 uint32_t uramsheg_scene(const uint8_t *set, size_t set_length,
                         float peak_threshold, float sigma_threshold, float curvature_ratio, float window_low, float window_high,
