@@ -46,7 +46,8 @@ int main(void) {
     }
     for (uint64_t i = 0; i < found; i++) {
         const uint8_t *spot = out + URAMSHEG_SPOT_BYTES * i;
-        printf("spot at x %g, y %g: a %s of sigma %g, peak %g\n", get(spot, 0), get(spot, 1), spot[38] ? "maximum" : "minimum", get(spot, 2), get(spot, 3));
+        printf("spot at x %g, y %g, moved by %g, %g: a %s of sigma %g, peak %g\n", get(spot, 0), get(spot, 1), get(spot, DELTA_X), get(spot, DELTA_Y),
+               spot[38] ? "maximum" : "minimum", get(spot, 2), get(spot, 3));
     }
     printf("found %" PRIu64 "\n", found);
 
@@ -57,11 +58,11 @@ int main(void) {
     }
     for (uint64_t i = 0; i < value; i++) {
         const uint8_t *spot = sized + URAMSHEG_SIZED_BYTES * i;
-        unsigned row = spot[44] + 256u * spot[45], col = spot[46] + 256u * spot[47];
-        if (spot[48])
-            printf("spot %" PRIu64 ", home pixel (%u, %u): size %g\n", i, row, col, get(spot, 10));
+        unsigned row = get_u16(spot, HOME_ROW), col = get_u16(spot, HOME_COL);
+        if (spot[ACCEPTED])
+            printf("spot %" PRIu64 ", home pixel (%u, %u): size %g\n", i, row, col, get(spot, CORRECTED));
         else
-            printf("spot %" PRIu64 ", home pixel (%u, %u): %s\n", i, row, col, why_no_size(spot[49]));
+            printf("spot %" PRIu64 ", home pixel (%u, %u): %s\n", i, row, col, why_no_size(spot[CAUSE]));
     }
 
     /* One spot's size by itself: the same samples and sigma, but as a minimum, give none, and the cause says why. */

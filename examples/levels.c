@@ -56,13 +56,13 @@ int main(int count, char **words) {
     }
     for (uint64_t i = 0; i < value; i++) {
         const uint8_t *spot = sized + URAMSHEG_SIZED_BYTES * i;
-        unsigned row = spot[44] + 256u * spot[45], col = spot[46] + 256u * spot[47];
+        unsigned row = get_u16(spot, HOME_ROW), col = get_u16(spot, HOME_COL);
         printf("%s at x %.2f, y %.2f, home pixel (%u, %u): sigma %.2f, peak %.1f, ", spot[38] ? "maximum" : "minimum", get(spot, 0), get(spot, 1), row, col,
                get(spot, 2), get(spot, 3));
-        if (spot[48])
-            printf("size %.2f\n", get(spot, 10));
+        if (spot[ACCEPTED])
+            printf("size %.2f\n", get(spot, CORRECTED));
         else
-            printf("%s\n", why_no_size(spot[49]));
+            printf("%s\n", why_no_size(spot[CAUSE]));
     }
     return 0;
 }

@@ -69,15 +69,15 @@ static uint32_t list(const uint8_t *set, size_t set_length, uint64_t *value) {
 
 /* Prints a spot with its place on its tile and in the scene, where a double holds it exactly. */
 static void print(const uint8_t *record) {
-    unsigned row = record[0] + 256u * record[1], col = record[2] + 256u * record[3];
+    unsigned row = get_u16(record, 0), col = get_u16(record, 2);
     const uint8_t *spot = record + 4;
     double x = get(spot, 0), y = get(spot, 1);
     printf("%s in tile (%u, %u) at x %.2f, y %.2f, in the scene at x %.2f, y %.2f: sigma %.2f, peak %.1f, ", spot[38] ? "maximum" : "minimum", row, col, x, y,
            URAMSHEG_TILE_STEP * col + x, URAMSHEG_TILE_STEP * row + y, get(spot, 2), get(spot, 3));
-    if (spot[48])
-        printf("size %.2f\n", get(spot, 10));
+    if (spot[ACCEPTED])
+        printf("size %.2f\n", get(spot, CORRECTED));
     else
-        printf("%s\n", why_no_size(spot[49]));
+        printf("%s\n", why_no_size(spot[CAUSE]));
 }
 
 int main(int count, char **words) {

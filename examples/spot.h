@@ -11,6 +11,14 @@ static float get(const uint8_t *record, int word) {
     return x;
 }
 
+/* Words and bytes of a sized record, which begins with the spot record. */
+enum { DELTA_X = 10, DELTA_Y = 11, CORRECTED = 12, HOME_ROW = 52, HOME_COL = 54, ACCEPTED = 56, CAUSE = 57 };
+
+/* The u16 at a byte of a record. */
+static inline unsigned get_u16(const uint8_t *record, int at) {
+    return record[at] + 256u * record[at + 1];
+}
+
 /* Why a spot has no size, in words. */
 static inline const char *why_no_size(uint64_t cause) {
     switch (cause) {

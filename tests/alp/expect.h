@@ -40,7 +40,7 @@ static void set_t(uint8_t set[URAMSHEG_SET_BYTES]) {
     for (int i = 0; i < 9; i++) set[516 + i] = (uint8_t)i;
 }
 
-static bool all_are(const float *floats, size_t from, size_t to, float x) {
+static inline bool all_are(const float *floats, size_t from, size_t to, float x) {
     for (size_t i = from; i < to; i++)
         if (memcmp(floats + i, &x, sizeof x)) return false;
     return true;

@@ -81,10 +81,10 @@ static void detection(void) { noise(detected); }
 
 static void feed(void) { noise(fed); }
 
-/* A tile of more than 3,276 spots is detected another way, so that one of them must have as many. */
+/* A tile of more than 2,730 spots is detected another way, so that one of them must have as many. */
 static void scene(void) {
     noise(cut);
-    is_done = is_done && most > 3276;
+    is_done = is_done && most > 2730;
 }
 
 /* The bytes that a call takes of the stack, which is painted before. */
