@@ -1,5 +1,5 @@
 //! Reads what the list program reads (set, thresholds, sides, octave, four levels) from standard input and prints the spots with their
-//! home pixels and sizes.
+//! moves, home pixels and sizes.
 
 use std::io::Read;
 use uramsheg::{Map, Thresholds};
@@ -48,8 +48,8 @@ fn main() -> Result<(), Box<dyn std::error::Error>> {
         };
         let size = sized.size.map_or_else(why, |size| format!("size {size}"));
         println!(
-            "{kind} at x {}, y {}, home pixel ({}, {}): sigma {}, peak {}, {size}",
-            spot.x, spot.y, sized.row, sized.col, spot.sigma, spot.peak
+            "{kind} at x {}, y {}, moved by {}, {}, home pixel ({}, {}): sigma {}, peak {}, {size}",
+            spot.x, spot.y, spot.dx, spot.dy, sized.row, sized.col, spot.sigma, spot.peak
         );
     }
     Ok(())

@@ -56,6 +56,17 @@ pub mod raw {
             out_length: usize,
             value: *mut u64,
         ) -> u32;
+        pub fn uramsheg_join_old(
+            set: *const u8,
+            set_length: usize,
+            rows: usize,
+            cols: usize,
+            list: *const u8,
+            list_length: usize,
+            out: *mut u8,
+            out_length: usize,
+            value: *mut u64,
+        ) -> u32;
         pub fn uramsheg_correct(
             set: *const u8,
             set_length: usize,
@@ -239,7 +250,7 @@ pub fn levels(
     done(number, 0, ())
 }
 
-/// Lists the map's spots in `out`, 40 bytes each, by rising order key, at one key the minimum before the maximum. Answers the full number of spots;
+/// Lists the map's spots in `out`, 48 bytes each, by rising order key, at one key the minimum before the maximum. Answers the full number of spots;
 /// where `out` is too short for them it holds as many whole records as fit, first ones first. Later bytes are kept.
 pub fn detect(
     set: &[u8],
@@ -278,7 +289,7 @@ pub fn detect(
     done(number, value as usize, value as usize).map_err(|refusal| thresholds.told(refusal))
 }
 
-/// Sizes the records of a list found on a map of rows by cols, 52 bytes each, in the list's order, and gives each its home pixel, the one nearest to its
+/// Sizes the records of a list found on a map of rows by cols, 60 bytes each, in the list's order, and gives each its home pixel, the one nearest to its
 /// place, a half to the larger. Answers their number. Later bytes are kept.
 pub fn join(
     set: &[u8],
@@ -291,6 +302,35 @@ pub fn join(
     // SAFETY: each pointer goes with its own slice's length, and neither `out` nor `value` overlaps another.
     let number = unsafe {
         raw::uramsheg_join(
+            set.as_ptr(),
+            set.len(),
+            rows,
+            cols,
+            list.as_ptr(),
+            list.len(),
+            out.as_mut_ptr(),
+            out.len(),
+            &mut value,
+        )
+    };
+    done(number, value as usize, value as usize)
+}
+
+/// Sizes the records of an old list, from before there were displacements: of 40 bytes each, with 52 for each in `out`, in the list's order. A size and a home
+/// pixel are those that `join` gives; an `OldSpot` has no displacement, and none is made up. Answers their number. Later bytes are kept.
+///
+/// A list's length alone does not say which kind it is: six old records are as long as five new ones.
+pub fn join_old(
+    set: &[u8],
+    rows: usize,
+    cols: usize,
+    list: &[u8],
+    out: &mut [u8],
+) -> Result<usize, Refusal> {
+    let mut value = 0;
+    // SAFETY: each pointer goes with its own slice's length, and neither `out` nor `value` overlaps another.
+    let number = unsafe {
+        raw::uramsheg_join_old(
             set.as_ptr(),
             set.len(),
             rows,

@@ -54,7 +54,7 @@ pub fn feed_start(
 }
 
 /// Gives a feed in lent room its next column: of each level the pixels of one column, rows floats. Once column c+2 has come, column c is judged, and its
-/// spots are listed in `out`, 40 bytes each, by rising row, at one pixel the minimum before the maximum; later bytes are kept. Answers their number, 0 where
+/// spots are listed in `out`, 48 bytes each, by rising row, at one pixel the minimum before the maximum; later bytes are kept. Answers their number, 0 where
 /// no column is judged. A refused column is not taken: state, ring and output are as before, and it may be given again.
 pub fn feed_column(
     state: &mut [u8],

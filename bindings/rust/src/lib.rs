@@ -18,7 +18,7 @@ mod spot;
 pub use detector::raw;
 #[cfg(feature = "detector")]
 pub use detector::{
-    Map, Thresholds, check_set, correct, detect, downsample, four_levels, join, levels,
+    Map, Thresholds, check_set, correct, detect, downsample, four_levels, join, join_old, levels,
     octave_count, sized_spots, spots,
 };
 #[cfg(feature = "detector")]
@@ -30,4 +30,6 @@ pub use scene::{
     SCENE_BYTES, SCENE_LONGEST, SceneSpot, TILE_LENGTH, TILE_STEP, scene, scene_spots, tile_count,
     tile_pixels,
 };
-pub use spot::{SIZED_BYTES, SPOT_BYTES, SizedSpot, Spot};
+pub use spot::{
+    OLD_SIZED_BYTES, OLD_SPOT_BYTES, OldSpot, SIZED_BYTES, SPOT_BYTES, SizedSpot, Spot,
+};

@@ -3,9 +3,9 @@
 use crate::Missing;
 use std::fmt;
 
-/// Why a call was refused. Of the call's checks, in its order, the first that holds is answered: detection checks 1, 2, 3, 8, 4; the join 1, 4, 5 for the
-/// list's length, 5 for a record, 6; correction 4, 7; halving a level 1, 2, 6; making levels 1, 2, 3, 4, 6; a feed's start 1, 3, 8, 4, 6; its column 9, 2, 6; a
-/// scene 10, 2, 3, 8, 4, 6 for a tile slice, 6 for the records of a tile.
+/// Why a call was refused. Of the call's checks, in its order, the first that holds is answered: detection checks 1, 2, 3, 8, 4; the join, and that of old lists,
+/// 1, 4, 5 for the list's length, 5 for a record, 6; correction 4, 7; halving a level 1, 2, 6; making levels 1, 2, 3, 4, 6; a feed's start 1, 3, 8, 4, 6; its
+/// column 9, 2, 6; a scene 10, 2, 3, 8, 4, 6 for a tile slice, 6 for the records of a tile.
 #[derive(Clone, Copy, Debug, PartialEq, Eq)]
 pub enum Refusal {
     /// 1: rows or cols above 4,096, but for a scene.
@@ -91,7 +91,8 @@ impl fmt::Display for Refusal {
             ),
             Refusal::Records { index } => write!(
                 f,
-                "the list is not a whole number of 40-byte records, or its record {index} is bad for this map"
+                "the list is not a whole number of records, 48 bytes each (an old list's, which join_old takes, have 40), or its record {index} is bad for this \
+                 map"
             ),
             Refusal::Room => write!(
                 f,

@@ -5,7 +5,7 @@ use crate::{Map, Refusal, SIZED_BYTES, SizedSpot, Thresholds};
 use std::ops::Range;
 
 /// The bytes of a scene's record.
-pub const SCENE_BYTES: usize = 56;
+pub const SCENE_BYTES: usize = 64;
 /// The longest side of a scene.
 pub const SCENE_LONGEST: usize = 16_384;
 /// How many pixels along a side a tile starts behind the one before it.
@@ -66,7 +66,7 @@ impl SceneSpot {
         in_scene(self.tile_row, self.sized.spot.y)
     }
 
-    /// The row and the col of the scene's pixel that it was found at, on a scene of so many cols; it may have moved from there by 0.6 of a pixel.
+    /// The row and the col of the scene's pixel that it was found at, on a scene of so many cols; its dx and dy are how far it moved from there.
     pub fn pixel(&self, cols: usize) -> (usize, usize) {
         let across = tile_pixels(cols, self.tile_col.into());
         let key = self.sized.spot.key as usize;
@@ -84,7 +84,7 @@ fn due(rows: usize, cols: usize) -> usize {
     rows.min(TILE_LENGTH) * cols.min(TILE_LENGTH)
 }
 
-/// Lists a scene's spots with their sizes in `out`, 56 bytes each, tile by tile: (0, 0), (0, 1), .., then (1, 0), ..; answers their number, and later bytes are
+/// Lists a scene's spots with their sizes in `out`, 64 bytes each, tile by tile: (0, 0), (0, 1), .., then (1, 0), ..; answers their number, and later bytes are
 /// kept. Each of the four tile slices is at least min(rows, 4,096) * min(cols, 4,096) floats long; each tile's levels are copied to their fronts, and
 /// what is behind a copy is kept.
 ///

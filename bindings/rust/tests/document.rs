@@ -42,8 +42,7 @@ fn found(rows: usize, cols: usize, place: (usize, usize)) -> Result<usize, Refus
     uramsheg::detect(&set_t(), THRESHOLDS, map(rows, cols, &levels), &mut [])
 }
 
-const RECORD_OF_M: &str =
-    "00009040000080400000004000008040000080bf0000804000000000000000002c00000000010100";
+const RECORD_OF_M: &str = "00009040000080400000004000008040000080bf0000804000000000000000002c000000000101000000003f00000000";
 
 #[test]
 fn map_m_lists_its_record() {
@@ -74,7 +73,7 @@ fn a_lost_pixel_strikes_the_spots_around_it_alone() {
 #[test]
 fn short_buffers_hold_whole_records_alone() {
     let levels = levels(9, 10, (4, 4));
-    for (room, written) in [(0, 0), (39, 0), (40, 40), (41, 40)] {
+    for (room, written) in [(0, 0), (40, 0), (47, 0), (48, 48), (49, 48)] {
         let mut out = vec![0xa5; room];
         let answer = uramsheg::detect(&set_t(), THRESHOLDS, map(9, 10, &levels), &mut out);
         assert_eq!(answer, Ok(1), "with room {room}");
@@ -120,7 +119,7 @@ fn the_first_refusal_is_given_and_nothing_is_written() {
         (&bad, sound, Refusal::Set),
     ];
     for (set, map, refusal) in cases {
-        let mut out = [0xa5; 80];
+        let mut out = [0xa5; 2 * SPOT_BYTES];
         assert_eq!(
             uramsheg::detect(set, THRESHOLDS, map, &mut out),
             Err(refusal)
@@ -157,7 +156,7 @@ fn a_threshold_that_is_nan_is_refused_after_the_octave_and_before_the_set() {
         let nan = [0, 1, 2, 3, 4].map(|place| chosen >> place & 1 == 1);
         for bits in [0x7fc0_0000, 0x7f80_0001, 0xffc0_0000, 0xff80_0001] {
             let thresholds = blank(nan, bits);
-            let mut out = [0xa5; 80];
+            let mut out = [0xa5; 2 * SPOT_BYTES];
             let mut refused = |set, map| uramsheg::detect(set, thresholds, map, &mut out);
             assert_eq!(refused(&good, sound), Err(Refusal::Thresholds { nan }));
             assert_eq!(refused(&bad, sound), Err(Refusal::Thresholds { nan }));
@@ -229,7 +228,7 @@ fn a_sized_record_says_why_its_size_is_missing() {
     ] {
         let mut out = [0xa5; SIZED_BYTES];
         assert_eq!(uramsheg::join(&set_t(), 9, 10, &record, &mut out), Ok(1));
-        assert_eq!(out[48..], last);
+        assert_eq!(out[56..], last);
         let SizedSpot {
             spot,
             size,
@@ -239,7 +238,7 @@ fn a_sized_record_says_why_its_size_is_missing() {
         let corrected = uramsheg::correct(&set_t(), spot.samples, spot.sigma, spot.is_max);
         assert_eq!((size, read), (corrected.ok(), missing));
         assert_eq!(corrected.err(), missing.map(Refusal::NoSize));
-        assert_eq!(out[40..44] == [0; 4], missing.is_some());
+        assert_eq!(out[48..52] == [0; 4], missing.is_some());
     }
 }
 
@@ -299,7 +298,7 @@ fn the_join_refuses_in_order() {
     assert_eq!(join(&[], 4097, &two[1..], 0), Err(Refusal::Size));
     assert_eq!(join(&[], 9, &two[1..], 0), Err(Refusal::Set));
     assert_eq!(
-        join(&good, 9, &damaged[..79], 0),
+        join(&good, 9, &damaged[..95], 0),
         Err(Refusal::Records { index: 1 })
     );
     assert_eq!(
@@ -489,6 +488,8 @@ fn a_record_reads_as_a_spot() {
         octave: 0,
         scale_index: 1,
         is_max: true,
+        dx: 0.5,
+        dy: 0.0,
     };
     assert_eq!(Spot::from_record(&record), spot);
 }

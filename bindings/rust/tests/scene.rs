@@ -157,6 +157,11 @@ fn a_scene_of_one_tile_lists_its_maps_spots() {
     assert!(spots.iter().all(|s| (s.tile_row, s.tile_col) == (0, 0)));
 }
 
+/// The bits of how far a spot moved.
+fn moved(spot: &SceneSpot) -> [u32; 2] {
+    [spot.sized.spot.dx, spot.sized.spot.dy].map(f32::to_bits)
+}
+
 /// The places near a seam, each with the number of the tile that judges it.
 fn near_a_seam() -> impl Iterator<Item = (usize, u16)> {
     (4_084..4_100).map(|place| (place, u16::from(place > 4_091)))
@@ -172,6 +177,7 @@ fn a_blob_near_a_seam_of_cols_is_listed_once() {
         assert_eq!(spot.sized.spot.key as usize, 4 * width + own);
         assert_eq!((spot.sized.row, spot.sized.col), (4, own as u16 + 1));
         assert_eq!(spot.sized.spot.x, own as f32 + 0.5);
+        assert_eq!(moved(&spot), [0.5, 0.0].map(f32::to_bits));
         assert_eq!((spot.x(), spot.y()), (col as f64 + 0.5, 4.0));
         assert_eq!(spot.pixel(4_110), (4, col));
     }
@@ -186,6 +192,7 @@ fn a_blob_near_a_seam_of_rows_is_listed_once() {
         assert_eq!(spot.sized.spot.key as usize, 9 * own + 4);
         assert_eq!((spot.sized.row, spot.sized.col), (own as u16, 5));
         assert_eq!(spot.sized.spot.y, own as f32);
+        assert_eq!(moved(&spot), [0.5, 0.0].map(f32::to_bits));
         assert_eq!((spot.x(), spot.y()), (4.5, row as f64));
         assert_eq!(spot.pixel(9), (row, 4));
     }
@@ -432,6 +439,8 @@ fn a_record_reads_as_a_spot_with_its_places_in_the_scene() {
         octave: 0,
         scale_index: 1,
         is_max: true,
+        dx: 0.499_999_5,
+        dy: -0.6,
     };
     let floats = [spot.x, spot.y, spot.sigma, spot.peak];
     for (place, float) in floats.iter().chain(&spot.samples).enumerate() {
@@ -439,8 +448,10 @@ fn a_record_reads_as_a_spot_with_its_places_in_the_scene() {
     }
     record[36..40].copy_from_slice(&spot.key.to_le_bytes());
     record[40..44].copy_from_slice(&[0, 1, 1, 0]);
-    record[44..48].copy_from_slice(&2.5f32.to_le_bytes());
-    record[48..54].copy_from_slice(&[0xeb, 0x0f, 4, 0, 1, 0]);
+    for (place, float) in [(44, spot.dx), (48, spot.dy), (52, 2.5)] {
+        record[place..place + 4].copy_from_slice(&float.to_le_bytes());
+    }
+    record[56..62].copy_from_slice(&[0xeb, 0x0f, 4, 0, 1, 0]);
     let read = SceneSpot::from_record(&record);
     let sized = SizedSpot {
         spot,
