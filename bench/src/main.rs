@@ -8,7 +8,7 @@ mod scene;
 
 use judge::{Logs, RawMap, Set, fixed};
 use std::time::Instant;
-use uramsheg::{SIZED_BYTES, Spot};
+use uramsheg::{SIZED_BYTES, SizedSpot, Spot};
 
 /// The set of half-octave sigmas, one of those that stand as real constants in the judge.
 const SET: usize = 1;
@@ -58,7 +58,7 @@ fn time_sizes(set: &[u8; 528], side: usize, list: &[u8]) {
         let began = Instant::now();
         uramsheg::join(set, side, side, list, &mut sized).expect("the join refused detection's list");
         let seconds = began.elapsed().as_secs_f64();
-        (seconds, sized.chunks(SIZED_BYTES).filter(|record| record[48] == 1).count())
+        (seconds, sized.as_chunks().0.iter().filter(|record| SizedSpot::from_record(record).size.is_some()).count())
     });
     let time_rust = |logs| {
         fastest(|| {
