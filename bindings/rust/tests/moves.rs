@@ -3,6 +3,7 @@
 mod common;
 
 use common::set_t;
+use std::collections::BTreeMap;
 use uramsheg::{
     Feed, Map, Missing, OLD_SIZED_BYTES, OLD_SPOT_BYTES, OldSpot, Refusal, SIZED_BYTES, SPOT_BYTES,
     SizedSpot, Spot, Thresholds,
@@ -19,10 +20,9 @@ const THRESHOLDS: Thresholds = Thresholds {
 const ROWS: usize = 9;
 const COLS: usize = 10;
 
-/// Map M's record, and behind its first 40 bytes, which were all of it before, what the join of old lists adds.
+/// Map M's record, whose first 40 bytes were all of it before, and the 52 bytes that the join made of those.
 const RECORD_OF_M: &str = "00009040000080400000004000008040000080bf0000804000000000000000002c000000000101000000003f00000000";
-const OLD_REST_OF_M: &str = "f304354004000500" /* size, home row, home col */;
-const OLD_END_OF_M: &str = "01000000" /* accepted, cause, two zeros */;
+const OLD_SIZED_OF_M: &str = "00009040000080400000004000008040000080bf0000804000000000000000002c00000000010100f30435400400050001000000";
 
 /// What stands in the output before a call.
 const BYTE: u8 = 0xa5;
@@ -110,18 +110,105 @@ fn map_m_moved_by_half_a_col_and_no_row() {
 }
 
 #[test]
+fn a_move_of_zero_is_plus_zero_at_a_minimum_too() {
+    let mut levels = levels(ROWS, COLS, (4, 4));
+    levels
+        .iter_mut()
+        .flatten()
+        .for_each(|pixel| *pixel = -*pixel);
+    let spots = uramsheg::spots(&set_t(), THRESHOLDS, map(ROWS, COLS, &levels)).unwrap();
+    let moves: Vec<_> = spots
+        .iter()
+        .map(|&spot| (spot.is_max, bits(spot)))
+        .collect();
+    assert_eq!(moves, [(false, [0.5, 0.0].map(f32::to_bits))]);
+}
+
+/// Noise, another in each level.
+fn noise(pixels: usize) -> [Vec<f32>; 4] {
+    let mut state = 1u32;
+    let mut next = || {
+        state = state.wrapping_mul(1_664_525).wrapping_add(1_013_904_223);
+        (state >> 8) as f32 / 8_388_608.0 - 1.0
+    };
+    [0; 4].map(|_| (0..pixels).map(|_| next()).collect())
+}
+
+const OPEN: Thresholds = Thresholds {
+    peak: 0.0,
+    sigma: 0.0,
+    ratio: 12.1,
+    low: -1.0,
+    high: 9.0,
+};
+
+const STANDARD: &[u8] = include_bytes!("../../python/src/uramsheg/standard.set");
+
+#[test]
 fn a_place_is_its_pixel_plus_the_move_rounded_once() {
-    // a shift of the blob's row within its move: the move is the same at every col
-    for (row, col) in [(4, 4), (4, 2_040), (5, 4_091), (4, 1_023)] {
-        let levels = levels(11, 4_096, (row, col));
-        let spots = uramsheg::spots(&set_t(), THRESHOLDS, map(11, 4_096, &levels)).unwrap();
-        let [spot] = spots[..] else {
-            panic!("{} spots", spots.len());
-        };
-        assert_eq!(spot.key as usize, row * 4_096 + col);
-        assert_eq!(spot.x, (col as f64 + f64::from(spot.dx)) as f32);
-        assert_eq!(spot.y, (row as f64 + f64::from(spot.dy)) as f32);
+    let (rows, cols) = (21, 4_096);
+    let levels = noise(rows * cols);
+    let spots = uramsheg::spots(STANDARD, OPEN, map(rows, cols, &levels)).unwrap();
+    assert!(spots.len() > 100, "{} spots", spots.len());
+    for spot in spots {
+        let (row, col) = (spot.key as usize / cols, spot.key as usize % cols);
+        assert_eq!(
+            (spot.x, spot.y),
+            (col as f32 + spot.dx, row as f32 + spot.dy),
+            "{spot:?}"
+        );
+        assert!(spot.dx.abs() <= 0.6 && spot.dy.abs() <= 0.6, "{spot:?}");
+        // never -0.0
+        assert!(bits(spot).iter().all(|&delta| delta != 1 << 31), "{spot:?}");
     }
+}
+
+/// The spots of noise on a map of 21 rows, by polarity, row and col; its first col has this number.
+fn by_pixel(levels: [&[f32]; 4], first: usize) -> BTreeMap<(bool, usize, usize), Spot> {
+    let cols = levels[0].len() / 21;
+    let map = Map {
+        rows: 21,
+        cols,
+        octave: 0,
+        levels,
+    };
+    let spots = uramsheg::spots(STANDARD, OPEN, map).unwrap();
+    let pixel = |key: usize| (key / cols, first + key % cols);
+    let place = |spot: &Spot| {
+        (
+            spot.is_max,
+            pixel(spot.key as usize).0,
+            pixel(spot.key as usize).1,
+        )
+    };
+    spots.into_iter().map(|spot| (place(&spot), spot)).collect()
+}
+
+#[test]
+fn a_move_is_the_same_wherever_the_spot_is() {
+    let (first, end) = (3_000, 3_400);
+    let levels = noise(21 * 4_096);
+    let far = by_pixel(levels.each_ref().map(Vec::as_slice), 0);
+    let near = by_pixel(
+        levels.each_ref().map(|level| &level[21 * first..21 * end]),
+        first,
+    );
+    // the four cols at either side are not judged
+    let judged = far
+        .iter()
+        .filter(|((_, _, col), _)| (first + 4..end - 4).contains(col));
+    assert!(judged.clone().map(|(place, _)| place).eq(near.keys()));
+    let mut spoiled = 0;
+    for (place, spot) in judged {
+        assert_eq!(bits(*spot), bits(near[place]), "{place:?}");
+        spoiled += usize::from(spot.x - place.2 as f32 != spot.dx);
+    }
+    // x less the col is another move for nearly all of them
+    assert!(
+        near.len() > 20 && spoiled > near.len() / 2,
+        "{spoiled} of {}",
+        near.len()
+    );
 }
 
 #[test]
@@ -202,8 +289,7 @@ fn that_a_place_is_the_pixel_plus_the_move_is_not_checked() {
 #[test]
 fn an_old_list_is_sized_as_it_was_before() {
     let old = old_record_of_m();
-    let rest = [bytes_of(OLD_REST_OF_M), bytes_of(OLD_END_OF_M)].concat();
-    let former = [&old[..], &rest].concat();
+    let former = bytes_of(OLD_SIZED_OF_M);
     for more in [0, 1, 8, OLD_SIZED_BYTES] {
         let (answer, out) = call(
             uramsheg::join_old,
