@@ -58,7 +58,7 @@ fn time_sizes(set: &[u8; 528], side: usize, list: &[u8]) {
         let began = Instant::now();
         uramsheg::join(set, side, side, list, &mut sized).expect("the join refused detection's list");
         let seconds = began.elapsed().as_secs_f64();
-        (seconds, sized.as_chunks().0.iter().filter(|record| SizedSpot::from_record(record).size.is_some()).count())
+        (seconds, sized.as_chunks::<SIZED_BYTES>().0.iter().filter(|&record| SizedSpot::from_record(record).size.is_some()).count())
     });
     let time_rust = |logs| {
         fastest(|| {
