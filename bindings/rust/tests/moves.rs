@@ -173,15 +173,11 @@ fn by_pixel(levels: [&[f32]; 4], first: usize) -> BTreeMap<(bool, usize, usize),
         levels,
     };
     let spots = uramsheg::spots(STANDARD, OPEN, map).unwrap();
-    let pixel = |key: usize| (key / cols, first + key % cols);
-    let place = |spot: &Spot| {
-        (
-            spot.is_max,
-            pixel(spot.key as usize).0,
-            pixel(spot.key as usize).1,
-        )
+    let place = |spot: Spot| {
+        let key = spot.key as usize;
+        ((spot.is_max, key / cols, first + key % cols), spot)
     };
-    spots.into_iter().map(|spot| (place(&spot), spot)).collect()
+    spots.into_iter().map(place).collect()
 }
 
 #[test]
@@ -203,7 +199,7 @@ fn a_move_is_the_same_wherever_the_spot_is() {
         assert_eq!(bits(*spot), bits(near[place]), "{place:?}");
         spoiled += usize::from(spot.x - place.2 as f32 != spot.dx);
     }
-    // x less the col is another move for nearly all of them
+    // x less the col is not the move
     assert!(
         near.len() > 20 && spoiled > near.len() / 2,
         "{spoiled} of {}",

@@ -282,6 +282,19 @@ fn the_output_grows_until_all_spots_fit() {
 }
 
 #[test]
+fn a_tile_lists_its_maps_spots_where_it_is_detected_once_and_where_twice() {
+    for count in [2_730, 2_731] {
+        let blobs: Vec<(usize, usize)> = (0..count)
+            .map(|blob| (4 + 2 * (blob / 96), 4 + 2 * (blob % 96)))
+            .collect();
+        let scene = Scene::of_blobs(200, 200, &blobs);
+        let sized: Vec<SizedSpot> = scene.spots().iter().map(|spot| spot.sized).collect();
+        let due = uramsheg::sized_spots(&set_t(), THRESHOLDS, scene.map());
+        assert_eq!((sized.len(), Ok(sized)), (count, due));
+    }
+}
+
+#[test]
 fn a_full_output_holds_whole_tiles_and_tells_how_many() {
     // three spots in the first tile, none in the second, one in the third
     let scene = Scene::of_blobs(9, 8_200, &[(4, 40), (4, 50), (4, 4_000), (4, 8_190)]);
