@@ -15,7 +15,7 @@
  * A spot record (48 bytes, little-endian):
  *   0 x, 4 y, 8 sigma, 12 peak, 16 20 24 28 the four centre samples (f32 each); 32 order key u32 (row * cols + col of the spot's own pixel);
  *   36 octave, 37 scale index (1 or 2), 38 polarity (1 maximum, 0 minimum), 39 zero; 40 delta x, 44 delta y (f32 each)
- * The deltas are how far detection moved the spot from its own pixel, as computed; where it is 0, +0.0. x is the pixel's col plus delta x, rounded once, and y
+ * The deltas are how far detection moved the spot from its own pixel, as computed, a zero always +0.0. x is the pixel's col plus delta x, rounded once, and y
  * its row plus delta y. At a large x the rounding spoils the move: x less the col is delta x only nearly.
  * A record is bad unless its floats are finite, x is 0 to cols-1, y 0 to rows-1, the key under rows*cols, octave to 5, index 1 or 2, polarity 0 or 1,
  * byte 39 0, and each delta at most the f32 0.6 (0x3f19999a) in size. A delta of -0.0 is fine; that x and y are the pixel plus the deltas is not checked.
