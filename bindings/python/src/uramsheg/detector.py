@@ -5,7 +5,7 @@ import numpy as np
 
 from . import arrays
 from ._native import ffi, lib
-from .records import SIZED, SPOT
+from .records import OLD_SIZED, OLD_SPOT, SIZED, SPOT
 from .refusals import LevelRefused, NoSizeRefused, OctaveRefused, RecordsRefused, RoomRefused, SceneRefused, SetRefused, SizeRefused, ThresholdsRefused, kind_of
 from .tables import Tables, faults, record_of
 
@@ -106,6 +106,21 @@ def slice_of(array, shape):
     return ffi.new("float[1]"), wrong
 
 
+class Listing(NamedTuple):
+    """A kind of list: the name of the call that sizes it, its records and those that they become, with their names, and words that tell it from the other."""
+
+    call: str
+    spot: np.dtype
+    sized: np.dtype
+    names: tuple
+    words: str
+
+
+NEW = Listing("join", SPOT, SIZED, ("SPOT", "SIZED"), "with displacements")
+OLD = Listing("join_old", OLD_SPOT, OLD_SIZED, ("OLD_SPOT", "OLD_SIZED"), "of before displacements were kept")
+OTHER = {NEW.call: OLD, OLD.call: NEW}
+
+
 def join(spots, tables, shape, *, out=None):
     """Each spot with its size and its home pixel, an array of SIZED in the list's order.
 
@@ -114,29 +129,61 @@ def join(spots, tables, shape, *, out=None):
     to y and x, a half to the larger; the one that the spot was found at is key // cols, key % cols. `out`, a contiguous array of SIZED, is written to
     where it is given, and its first records are answered.
     """
+    return joined(NEW, spots, tables, shape, out)
+
+
+def join_old(spots, tables, shape, *, out=None):
+    """The join of a list that was kept before records had displacements: an array of OLD_SIZED, which has none either.
+
+    `spots` is an array of OLD_SPOT, or the bytes of such records. All else is as in `join`, with OLD_SIZED for SIZED.
+    """
+    return joined(OLD, spots, tables, shape, out)
+
+
+def joined(kind, spots, tables, shape, out):
+    """The join of a kind of list."""
     record = record_of(tables)
-    listed = listed_bytes(spots)
+    listed = listed_bytes(kind, spots)
     rows, cols = (arrays.count("a side", side) for side in shape)
     if out is None:
-        out = np.zeros(len(listed) // SPOT.itemsize, SIZED)
-    if not isinstance(out, np.ndarray) or out.dtype != SIZED or out.ndim != 1:
-        raise TypeError("out must be a 1-d array of SIZED")
+        out = np.zeros(len(listed) // kind.spot.itemsize, kind.sized)
+    if not isinstance(out, np.ndarray) or out.dtype != kind.sized or out.ndim != 1:
+        raise TypeError(f"out must be a 1-d array of {kind.names[1]}")
     if np.may_share_memory(out, listed):
         raise ValueError("out must not overlap the spots")
     value = ffi.new("uint64_t *")
-    number = lib.uramsheg_join(record, len(record), rows, cols, *arrays.octets(listed), *arrays.octets_to_write(out), value)
+    call = getattr(lib, f"uramsheg_{kind.call}")
+    number = call(record, len(record), rows, cols, *arrays.octets(listed), *arrays.octets_to_write(out), value)
     if number:
-        raise refusal(number, value[0], record=record, shapes=[(rows, cols)], listed=len(listed))
+        raise refusal(number, value[0], record=record, shapes=[(rows, cols)], listed=list_fault(kind, spots, len(listed), value[0]))
     return out[:value[0]]
 
 
-def listed_bytes(spots):
-    """A list's bytes: those of an array of SPOT, or the ones given."""
-    if isinstance(spots, np.ndarray) and spots.dtype == SPOT and spots.ndim == 1:
-        return np.ascontiguousarray(spots).view("u1")
+def listed_bytes(kind, spots):
+    """A list's bytes: those of an array of its kind's records, or the ones given."""
+    if isinstance(spots, np.ndarray) and spots.ndim == 1:
+        if spots.dtype == kind.spot:
+            return np.ascontiguousarray(spots).view("u1")
+        if spots.dtype == OTHER[kind.call].spot:
+            raise TypeError(f"{kind.call} takes records {kind.words}; these look like {meant(kind)}")
     if isinstance(spots, (bytes, bytearray, memoryview)):
         return np.frombuffer(spots, "u1")
-    raise TypeError("spots must be what detect answers, a 1-d array of SPOT, or the bytes of such records")
+    raise TypeError(f"spots must be a 1-d array of {kind.names[0]}, or the bytes of such records")
+
+
+def meant(kind):
+    """The other kind of records, and their call."""
+    other = OTHER[kind.call]
+    return f"records {other.words}: use {other.call}"
+
+
+def list_fault(kind, spots, length, value):
+    """What is wrong with a list that is refused with 5. Bytes whose length is one of the other kind's records may be meant for the other call."""
+    whole, rest = divmod(length, kind.spot.itemsize)
+    said = f"{length} bytes are {whole} records and {rest} bytes more" if rest else f"record {value}"
+    if length % OTHER[kind.call].spot.itemsize or isinstance(spots, np.ndarray):
+        return said
+    return f"{said}; {'these look like' if rest else 'if these are'} {meant(kind)}"
 
 
 def correct(samples, tables, sigma, is_max):
@@ -178,14 +225,13 @@ def read_set(record):
     return Tables.from_bytes(octets)
 
 
-def refusal(number, value=0, *, record=b"", shapes=(), thresholds=(), octave=0, listed=0, rooms=()):
+def refusal(number, value=0, *, record=b"", shapes=(), thresholds=(), octave=0, listed="", rooms=()):
     """The exception of a refused call, with what was handed in where it says more than the number does."""
     kind = kind_of(number)
     if kind is ThresholdsRefused:
         return kind([name for name, given in zip(Thresholds._fields, thresholds) if given != given])
     if kind is RecordsRefused:
-        whole, rest = divmod(listed, SPOT.itemsize)
-        return kind(f"{listed} bytes are {whole} records and {rest} bytes more" if rest else f"record {value}", int(value))
+        return kind(listed, int(value))
     if kind is NoSizeRefused:
         return kind(int(value))
     if kind is SetRefused:

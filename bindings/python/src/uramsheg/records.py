@@ -15,15 +15,25 @@ SET = np.dtype([
     *((name, "<f4") for name in NUMBERS), ("order", "u1", (9,)), ("spare", "u1", (3,)),
 ])
 
-#: a spot as detection lists it; `key` is row * cols + col of its own pixel, from which x and y may be 0.6 of a pixel off
-SPOT = np.dtype([
+#: a spot as detection listed it before it kept displacements
+OLD_SPOT = np.dtype([
     ("x", "<f4"), ("y", "<f4"), ("sigma", "<f4"), ("peak", "<f4"), ("samples", "<f4", (4,)), ("key", "<u4"),
     ("octave", "u1"), ("scale_index", "u1"), ("is_max", "?"), ("spare", "u1"),
 ])
 
+#: a spot as detection lists it; `key` is row * cols + col of its own pixel, `dx` and `dy` are how far the refinement moved it from there, at most 0.6 each
+#: way; x is the col plus dx, y the row plus dy, each rounded once
+SPOT = np.dtype(OLD_SPOT.descr + [("dx", "<f4"), ("dy", "<f4")])
+
+#: what the join adds
+ADDED = [("size", "<f4"), ("row", "<u2"), ("col", "<u2"), ("accepted", "?"), ("cause", "u1"), ("spare_sized", "u1", (2,))]
+
 #: a spot with its size (0 where it has none: `accepted` is then false, and `cause` says why, a number of NO_SIZE, else 0) and its home pixel: `row` and
 #: `col` nearest to y and x, a half to the larger
-SIZED = np.dtype(SPOT.descr + [("size", "<f4"), ("row", "<u2"), ("col", "<u2"), ("accepted", "?"), ("cause", "u1"), ("spare_sized", "u1", (2,))])
+SIZED = np.dtype(SPOT.descr + ADDED)
+
+#: the same of a spot without displacements
+OLD_SIZED = np.dtype(OLD_SPOT.descr + ADDED)
 
 #: a spot of a scene as the call writes it: the numbers of its tile, and its sized record there
 TILED = np.dtype([("tile_row", "<u2"), ("tile_col", "<u2"), *SIZED.descr])
@@ -37,6 +47,7 @@ FEED = np.dtype([
 ])
 
 for kind, width in ((SET, lib.URAMSHEG_SET_BYTES), (SPOT, lib.URAMSHEG_SPOT_BYTES), (SIZED, lib.URAMSHEG_SIZED_BYTES),
+                    (OLD_SPOT, lib.URAMSHEG_OLD_SPOT_BYTES), (OLD_SIZED, lib.URAMSHEG_OLD_SIZED_BYTES),
                     (TILED, lib.URAMSHEG_SCENE_BYTES), (FEED, lib.URAMSHEG_FEED_BYTES)):
     if kind.itemsize != width:
         raise ImportError(f"a record of {kind.itemsize} bytes has {width} in uramsheg.h: build the package and its archive from one")
