@@ -9,11 +9,12 @@ from .grid import Grid
 from .tables import standard
 
 #: a spot of a map: x, y, size and sigma in the map's pixels, 0 at the first pixel's centre; size is NaN where there is none, and cause says why, a number
-#: of NO_SIZE, else 0; row and col are the map's pixel nearest to y and x, a half to the larger; key orders spots by the pixel that they were found at
+#: of NO_SIZE, else 0; row and col are the map's pixel nearest to y and x, a half to the larger; key orders spots by the pixel that they were found at; dx and
+#: dy are how far they were moved from there, in the map's pixels
 FOUND = np.dtype([
     ("x", "f8"), ("y", "f8"), ("map_x", "f8"), ("map_y", "f8"), ("size", "f8"), ("size_m", "f8"), ("height", "f8"), ("snr", "f8"),
     ("bright", "?"), ("near_lost", "?"), ("octave", "u1"), ("sigma", "f8"), ("peak", "f8"), ("row", "i4"), ("col", "i4"), ("key", "i8"),
-    ("cause", "u1"),
+    ("cause", "u1"), ("dx", "f8"), ("dy", "f8"),
 ])
 #: the lowest signal to noise that is asked for where neither a peak nor another is given
 SNR = 8.0
@@ -157,6 +158,7 @@ def rows_of(records, octave, unit):
     spots = np.zeros(len(records), FOUND)
     step = 2**octave
     spots["x"], spots["y"] = records["scene_x"] * step, records["scene_y"] * step
+    spots["dx"], spots["dy"] = records["dx"].astype(float) * step, records["dy"].astype(float) * step
     spots["row"], spots["col"] = np.floor(spots["y"] + 0.5), np.floor(spots["x"] + 0.5)
     spots["key"] = (records["scene_row"].astype(np.int64) * 2**32 + records["scene_col"]) * step
     spots["sigma"] = records["sigma"].astype(float) * step

@@ -10,13 +10,14 @@ ENDINGS = (".geojson", ".json", ".csv", ".gpkg")
 
 
 def columns(found):
-    """The table for people, by name: rank 1 is the strongest peak; None where there is no number. `cause` is 0 beside a size, else a number of NO_SIZE."""
+    """The table for people, by name: rank 1 is the strongest peak; None where there is no number. `cause` is 0 beside a size, else a number of NO_SIZE;
+    `dx` and `dy` are how far the spot was moved from its own pixel, in the map's pixels."""
     spots = found.spots
     named = {
         "rank": np.arange(1, len(spots) + 1), "x": spots["x"], "y": spots["y"], "map_x": spots["map_x"], "map_y": spots["map_y"],
         "kind": np.where(spots["bright"], "bright", "dark"), "height": spots["height"], "snr": spots["snr"], "size_px": spots["size"],
         "size_m": spots["size_m"], "sigma_px": spots["sigma"], "octave": spots["octave"], "near_lost": spots["near_lost"],
-        "cause": spots["cause"],
+        "cause": spots["cause"], "dx": spots["dx"], "dy": spots["dy"],
     }
     return {name: [plain(value) for value in values] for name, values in named.items()}
 

@@ -14,6 +14,7 @@ from .missing import NO_SIZE
 COLUMNS = (
     ("rank", "rank", "d"), ("map_x", "map x", ""), ("map_y", "map y", ""), ("height", "height", ".4g"), ("snr", "signal to noise", ".1f"),
     ("size_m", "size, m", ".2f"), ("size_px", "size, pixels", ".2f"), ("sigma_px", "sigma, pixels", ".2f"), ("octave", "octave", "d"),
+    ("dx", "dx, pixels", ".4f"), ("dy", "dy, pixels", ".4f"),
     ("kind", "kind", "s"), ("near_lost", "near lost", ""), ("cause", "why no size", "s"),
 )
 
