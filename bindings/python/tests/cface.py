@@ -14,11 +14,14 @@ SIGNATURES = {
     "uramsheg_feed_column": [OCTETS, SIZE, *[FLOATS, SIZE] * 8, OCTETS, SIZE, U64],
     "uramsheg_scene": [OCTETS, SIZE, *[FLOAT] * 5, SIZE, SIZE, SIZE, *[FLOATS, SIZE] * 8, OCTETS, SIZE, U64],
     "uramsheg_join": [OCTETS, SIZE, SIZE, SIZE, OCTETS, SIZE, OCTETS, SIZE, U64],
+    "uramsheg_join_old": [OCTETS, SIZE, SIZE, SIZE, OCTETS, SIZE, OCTETS, SIZE, U64],
     "uramsheg_correct": [OCTETS, SIZE, *[FLOAT] * 5, c.c_bool, FLOATS, U64],
     "uramsheg_octave_count": [SIZE, SIZE],
     "uramsheg_downsample": [SIZE, SIZE, FLOATS, SIZE, FLOATS, SIZE, U64, U64],
     "uramsheg_set_check": [OCTETS, SIZE],
 }
+#: the bytes of a spot record, a sized one and a scene's, and of the first two before displacements were kept
+SPOT, SIZED, SCENE, OLD_SPOT, OLD_SIZED = 48, 60, 64, 40, 52
 for name, kinds in SIGNATURES.items():
     function = getattr(library, name)
     function.argtypes, function.restype = kinds, c.c_uint32
@@ -61,10 +64,10 @@ def levels(record, raw, octave, rooms, shape=None):
 def detect(record, thresholds, levels, octave, room, shape=None):
     """The number, the value and the bytes of `out`, which has room for as many records."""
     rows, cols = shape or levels[0].shape
-    out, value = (c.c_uint8 * max(40 * room, 1))(), c.c_uint64(77)
+    out, value = (c.c_uint8 * max(SPOT * room, 1))(), c.c_uint64(77)
     slices = [part for level in levels for part in by_columns(level)]
-    number = library.uramsheg_detect(*octets(record), *thresholds, rows, cols, octave, *slices, out, 40 * room, value)
-    return number, value.value, bytes(out)[: 40 * room]
+    number = library.uramsheg_detect(*octets(record), *thresholds, rows, cols, octave, *slices, out, SPOT * room, value)
+    return number, value.value, bytes(out)[: SPOT * room]
 
 
 class Feed:
@@ -83,10 +86,10 @@ class Feed:
 
     def column(self, columns, room):
         """The number, the value and the bytes of `out`, which has room for as many records and holds 0xa5 before the call."""
-        out, value = (c.c_uint8 * max(40 * room, 1))(*[0xA5] * max(40 * room, 1)), c.c_uint64(77)
+        out, value = (c.c_uint8 * max(SPOT * room, 1))(*[0xA5] * max(SPOT * room, 1)), c.c_uint64(77)
         given = [part for column in columns for part in ((FLOAT * max(len(column), 1))(*map(float, column)), len(column))]
-        number = library.uramsheg_feed_column(self.state, self.room, *given, *self.slices(), out, 40 * room, value)
-        return number, value.value, bytes(out)[: 40 * room]
+        number = library.uramsheg_feed_column(self.state, self.room, *given, *self.slices(), out, SPOT * room, value)
+        return number, value.value, bytes(out)[: SPOT * room]
 
     def held(self):
         """The bytes of the state and of the ring."""
@@ -96,17 +99,22 @@ class Feed:
 def scene(record, thresholds, levels, octave, lengths, room):
     """The number, the value, the bytes of `out`, which has room for as many records and holds 0xa5 before the call, and those of the four tile slices, which
     have as many floats as is said, all 7 before it."""
-    lent, out, value = sevens(lengths), (c.c_uint8 * max(56 * room, 1))(*[0xA5] * max(56 * room, 1)), c.c_uint64(77)
+    lent, out, value = sevens(lengths), (c.c_uint8 * max(SCENE * room, 1))(*[0xA5] * max(SCENE * room, 1)), c.c_uint64(77)
     given = [part for level in levels for part in by_columns(level)]
-    number = library.uramsheg_scene(*octets(record), *thresholds, *levels[0].shape, octave, *given, *slices_of(lent, lengths), out, 56 * room, value)
-    return number, value.value, bytes(out)[: 56 * room], bytes_of(lent, lengths)
+    number = library.uramsheg_scene(*octets(record), *thresholds, *levels[0].shape, octave, *given, *slices_of(lent, lengths), out, SCENE * room, value)
+    return number, value.value, bytes(out)[: SCENE * room], bytes_of(lent, lengths)
 
 
-def join(record, shape, listed, room):
-    """The number, the value and the bytes of `out`."""
-    out, value = (c.c_uint8 * max(room, 1))(), c.c_uint64(77)
-    number = library.uramsheg_join(*octets(record), *shape, *octets(listed), out, room, value)
+def join(record, shape, listed, room, call="join"):
+    """The number, the value and the bytes of `out`, which has room for as many bytes and holds 0xa5 before the call."""
+    out, value = (c.c_uint8 * max(room, 1))(*[0xA5] * max(room, 1)), c.c_uint64(77)
+    number = getattr(library, f"uramsheg_{call}")(*octets(record), *shape, *octets(listed), out, room, value)
     return number, value.value, bytes(out)[:room]
+
+
+def join_old(record, shape, listed, room):
+    """The same of a list of before displacements were kept."""
+    return join(record, shape, listed, room, "join_old")
 
 
 def correct(record, samples, sigma, is_max):

@@ -1,4 +1,5 @@
-"""Levels a second time, in numpy: kernels pixel place by pixel place, passes over whole maps, every step in float32. Nothing of the package is used."""
+"""Levels and displacements a second time, in numpy: kernels pixel place by pixel place, passes over whole maps, fits over all spots, every step in float32.
+Nothing of the package is used."""
 import math
 
 import numpy as np
@@ -80,3 +81,27 @@ def reach(lost, down, right):
 def struck(lost, radius):
     """Where no spot can be listed: at most `radius` + 2 rows and cols off a lost pixel, but not that far both ways."""
     return reach(lost, radius + 1, radius + 2) | reach(lost, radius + 2, radius + 1)
+
+
+def samples(level, sigma, row, col):
+    """A level's samples at pixels: the square of its sigma times the sum of the four neighbours less four times the centre."""
+    return (level[row, col - 1] + level[row, col + 1] + level[row - 1, col] + level[row + 1, col] - 4 * level[row, col]) * (sigma * sigma)
+
+
+def values(four, tables, row, col, sigma):
+    """The cubics of the four samples at pixels, each at its sigma, by powers of it."""
+    *rest, last = (samples(level, s, row, col) for level, s in zip(four, tables.sigmas))
+    a, b, c, d = (sum((entry * (one - last) for entry, one in zip(line[1:], rest[1:])), line[0] * (rest[0] - last)) for line in tables.scale)
+    square = sigma * sigma
+    return a * (square * sigma) + b * square + c * sigma + (d + last)
+
+
+def moves(four, tables, spots):
+    """The displacements dx and dy of spots that four levels list: the stationary place of the quadratic that is fitted to the nine values around each. A zero is +0."""
+    row, col = np.divmod(spots["key"].astype(int), four[0].shape[1])
+    nine = [values(four, tables, row + down, col + right, spots["sigma"]) for down in (-1, 0, 1) for right in (-1, 0, 1)]
+    entries = tables.spatial[spots["scale_index"].astype(int) - 1]
+    w = [sum((entries[:, line, place] * nine[at] for place, at in enumerate(tables.order)), np.zeros(len(spots), F)) for line in range(5)]
+    dy = (w[2] * w[3] - 2 * w[0] * w[4]) / (4 * w[0] * w[1] - w[2] * w[2])
+    dx = (-w[3] - w[2] * dy) / (2 * w[0])
+    return dx + F(0), dy + F(0)

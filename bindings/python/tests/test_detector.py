@@ -3,6 +3,7 @@ import math
 from fractions import Fraction
 
 import cface
+import moves
 import numpy as np
 import odd
 import pytest
@@ -18,11 +19,12 @@ PEAKS = st.sampled_from([0.0, 0.01, 0.1, -1.0, float("inf")])
 def same_as_c(four, levels, record, thresholds, octave):
     """Detection and the join of the package and of the C face give the same bytes; answers the number of spots."""
     spots = u.detect(levels, record, thresholds, octave, room=1)
+    moves.hold(spots, four[0].shape[1])
     number, value, out = cface.detect(record, thresholds, four, octave, len(spots) + 1)
     assert (number, value) == (0, len(spots))
     assert spots.tobytes() == out[: spots.nbytes] and not any(out[spots.nbytes:])
     sized = u.join(spots, record, four[0].shape)
-    assert (0, len(sized), sized.tobytes()) == cface.join(record, four[0].shape, spots.tobytes(), 52 * len(spots))
+    assert (0, len(sized), sized.tobytes()) == cface.join(record, four[0].shape, spots.tobytes(), cface.SIZED * len(spots))
     return len(spots)
 
 
@@ -33,6 +35,8 @@ def test_map_m(m):
     assert (sized["x"], sized["y"], sized["sigma"], sized["peak"], sized["key"]) == (4.5, 4, 2, 4, 44)
     assert (sized["row"], sized["col"], sized["accepted"], sized["cause"], sized["is_max"]) == (4, 5, True, 0, True)
     assert f"{sized['size']:.6f}" == "2.828427"
+    assert m.line == m.old + np.array([0.5, 0], "<f4").tobytes() and (sized["dx"], sized["dy"]) == (0.5, 0)
+    assert sized.tobytes() == m.line + m.old_sized[40:]
 
 
 @pytest.mark.parametrize("col, count", [(1, 1), (2, 0), (6, 0), (7, 1)])
@@ -154,7 +158,7 @@ def test_the_join_gives_each_spot_the_correction_s_size_or_cause(spots, name):
     for record, ((samples, sigma), is_max) in zip(records, spots):
         record["samples"], record["sigma"], record["is_max"], record["scale_index"] = samples, sigma, is_max, 1
     sized = u.join(records, SETS[name], (1, 1))
-    assert sized.tobytes() == cface.join(SETS[name], (1, 1), records.tobytes(), 52 * len(spots))[2] and not sized["spare_sized"].any()
+    assert sized.tobytes() == cface.join(SETS[name], (1, 1), records.tobytes(), cface.SIZED * len(spots))[2] and not sized["spare_sized"].any()
     for record, ((samples, sigma), is_max) in zip(sized, spots):
         number, size, cause = corrected(samples, name, sigma, is_max)
         assert (record["accepted"], record["size"], record["cause"]) == (number == 0, 0 if number else size, cause)

@@ -64,7 +64,7 @@ def test_a_whole_feed_lists_what_detection_lists_whatever_the_array(shape, seed,
     came = []
     for plain, given in zip(bare, dressed, strict=True):
         came.append(feed.push(given))
-        assert own.column(plain, len(came[-1]) + 1) == (0, len(came[-1]), came[-1].tobytes() + b"\xa5" * 40)
+        assert own.column(plain, len(came[-1]) + 1) == (0, len(came[-1]), came[-1].tobytes() + b"\xa5" * cface.SPOT)
     assert own.number == 0 and feed.complete and feed.octave == octave and feed._state.tobytes() == own.held()[0]
     assert by_key(came).tobytes() == u.detect(four, SETS[name], thresholds(peak), octave).tobytes()
     assert before == [np.ma.getdata(one).tobytes() for given in dressed for one in given]
@@ -187,7 +187,7 @@ def test_a_column_of_the_c_face_without_room_is_not_taken_and_given_again_gives_
         due = feed.push(given)
         for room in range(len(due)):
             before = own.held()
-            assert own.column(given, room) == (6, 0, b"\xa5" * 40 * room) and own.held() == before
+            assert own.column(given, room) == (6, 0, b"\xa5" * cface.SPOT * room) and own.held() == before
             refused += 1
         assert own.column(given, len(due)) == (0, len(due), due.tobytes())
     assert refused == len(listed) > 3

@@ -22,6 +22,7 @@ def test_one_row_says_all():
     assert spot["size"] == pytest.approx(2.6, rel=0.01) and spot["size_m"] == pytest.approx(5 * spot["size"])
     assert spot["height"] == pytest.approx(100, rel=0.05) == -2 * spot["peak"]
     assert spot["bright"] and not spot["near_lost"] and spot["cause"] == 0 and spot["octave"] == 0 and (spot["row"], spot["col"]) == (33, 40)
+    assert (spot["key"], spot["dx"], spot["dy"]) == (33 * 2**32 + 40, pytest.approx(spot["x"] - 40, abs=1e-5), pytest.approx(spot["y"] - 33, abs=1e-5))
 
 
 @pytest.mark.parametrize("octave", [0, 1, 2])

@@ -19,7 +19,7 @@ def test_scenes_of_a_map_list_what_the_whole_map_lists(four, side):
     records = records[np.lexsort((records["is_max"], records["scene_col"], records["scene_row"]))]
     assert len(whole) > 0 and np.array_equal(records["scene_row"] * cols + records["scene_col"], whole["key"])
     assert abs(records["scene_x"] - whole["x"]).max() < 1e-4 and abs(records["scene_y"] - whole["y"]).max() < 1e-4
-    for name in ("sigma", "peak", "samples", "octave", "scale_index", "is_max", "size", "accepted", "cause"):
+    for name in ("sigma", "peak", "samples", "octave", "scale_index", "is_max", "dx", "dy", "size", "accepted", "cause"):
         assert records[name].tobytes() == whole[name].tobytes()
 
 
@@ -29,6 +29,7 @@ def test_a_spot_that_moved_over_the_border_has_another_home_than_its_key():
     own = np.divmod(sized["key"].astype(int), four[0].shape[1])
     away = [sized[side].astype(int) - pixel for side, pixel in zip(("row", "col"), own)]
     moved = [sized[place].astype(float) - pixel for place, pixel in zip("yx", own)]
+    assert all(abs(move - sized[name]).max() < 2**-15 for move, name in zip(moved, ("dy", "dx")))
     assert all(np.array_equal(steps, (move >= 0.5).astype(int) - (move < -0.5)) for steps, move in zip(away, moved))
     assert all(set(steps) == {-1, 0, 1} for steps in away)
 

@@ -1,4 +1,5 @@
 """Spots in files, read back by others."""
+import contextlib
 import csv
 import json
 import os
@@ -65,6 +66,21 @@ def test_geopackage(tmp_path):
         assert CRS.from_wkt(source.crs_wkt).to_epsg() == 32632 and len(source) == 2
         for feature, spot in zip(source, spots.spots):
             assert feature["geometry"]["coordinates"] == (spot["map_x"], spot["map_y"]) and feature["properties"]["height"] == spot["height"]
+
+
+def test_displacements(tmp_path):
+    """In every kind of file as in the table, the small ones too."""
+    spots = found()
+    spots.spots["dx"][1], spots.spots["dy"][1] = 2.0**-149, -0.6
+    for ending in ("geojson", "csv", "gpkg"):
+        path = tmp_path / f"spots.{ending}"
+        output.save(str(path), spots)
+        if ending == "csv":
+            rows = list(csv.DictReader(path.read_text().splitlines()))
+        else:
+            with fiona.open(path) if ending == "gpkg" else contextlib.nullcontext(json.loads(path.read_text())["features"]) as source:
+                rows = [dict(feature["properties"]) for feature in source]
+        assert all([float(row[name]) for row in rows] == spots.spots[name].tolist() and len(rows) == 2 for name in ("dx", "dy")) and abs(float(rows[0]["dx"]) - 0.2) < 0.02
 
 
 def test_causes(tmp_path):

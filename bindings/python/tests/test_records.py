@@ -13,7 +13,8 @@ HEADER = (cface.ROOT / "include" / "uramsheg.h").read_text()
 
 
 @pytest.mark.parametrize("kind, width", [(u.SET, lib.URAMSHEG_SET_BYTES), (u.SPOT, lib.URAMSHEG_SPOT_BYTES), (u.SIZED, lib.URAMSHEG_SIZED_BYTES),
-                                         (TILED, lib.URAMSHEG_SCENE_BYTES), (FEED, lib.URAMSHEG_FEED_BYTES), (u.SCENE, 80)])
+                                         (u.OLD_SPOT, lib.URAMSHEG_OLD_SPOT_BYTES), (u.OLD_SIZED, lib.URAMSHEG_OLD_SIZED_BYTES),
+                                         (TILED, lib.URAMSHEG_SCENE_BYTES), (FEED, lib.URAMSHEG_FEED_BYTES), (u.SCENE, 88)])
 def test_every_byte_has_a_name(kind, width):
     assert kind.itemsize == width == sum(kind[name].itemsize for name in kind.names)
     assert [kind.fields[name][1] for name in kind.names] == [sum(kind[before].itemsize for before in kind.names[:place]) for place in range(len(kind.names))]
@@ -21,11 +22,20 @@ def test_every_byte_has_a_name(kind, width):
 
 def test_the_places_are_the_header_s():
     places = {name: kind.fields[name][1] for kind in (u.SPOT, u.SIZED) for name in kind.names}
+    text = HEADER[HEADER.index("A spot record"):]
     said = {"x": r"(\d+) x,", "y": r"(\d+) y,", "sigma": r"(\d+) sigma,", "peak": r"(\d+) peak,", "samples": r"(\d+) 20 24 28 the four centre samples",
             "key": r"(\d+) order key u32", "octave": r"(\d+) octave,", "scale_index": r"(\d+) scale index", "is_max": r"(\d+) polarity",
-            "spare": r"(\d+) zero\n", "size": r"(\d+) corrected sigma f32", "row": r"(\d+) home row u16", "col": r"(\d+) home col u16",
-            "accepted": r"(\d+) accepted", "cause": r"(\d+) cause", "spare_sized": r"(\d+) 51 zero"}
-    assert {name: int(re.search(pattern, HEADER)[1]) for name, pattern in said.items()} == places
+            "spare": r"(\d+) zero", "dx": r"(\d+) delta x", "dy": r"(\d+) delta y", "size": r"(\d+) corrected sigma f32", "row": r"(\d+) home row u16", "col": r"(\d+) home col u16",
+            "accepted": r"(\d+) accepted", "cause": r"(\d+) cause", "spare_sized": r"(\d+) 59 zero"}
+    assert {name: int(re.search(pattern, text)[1]) for name, pattern in said.items()} == places
+
+
+def test_an_old_record_is_the_new_one_without_displacements():
+    """The same fields at the same places as far as it goes; what the join adds follows at once."""
+    kept = [name for name in u.SPOT.names if name not in ("dx", "dy")]
+    assert list(u.OLD_SPOT.names) == kept and all(u.OLD_SPOT.fields[name] == u.SPOT.fields[name] for name in kept) and u.SPOT.fields["dx"][1] == 40
+    assert u.OLD_SIZED.names == (*kept, *u.SIZED.names[len(u.SPOT.names):]) and all(u.OLD_SIZED[name] == u.SIZED[name] for name in u.OLD_SIZED.names)
+    assert [u.OLD_SIZED.fields[name][1] for name in u.OLD_SIZED.names[10:]] == [40, 44, 46, 48, 49, 50]
 
 
 def test_the_places_of_a_scene_s_record_are_the_header_s():
@@ -54,9 +64,22 @@ def test_a_list_in_another_order_is_sized_as_well(m):
     assert u.join(spots[::-2], m.set, m.shape).tobytes() == u.join(spots[:3], m.set, m.shape).tobytes()
 
 
+def test_records_that_were_kept_before_displacements_were(m, tmp_path):
+    """numpy reads an array that was saved then as one of the old type: the old join takes it, and no displacement of 0 is made up for it."""
+    then = [("x", "<f4"), ("y", "<f4"), ("sigma", "<f4"), ("peak", "<f4"), ("samples", "<f4", (4,)), ("key", "<u4"),
+            ("octave", "u1"), ("scale_index", "u1"), ("is_max", "?"), ("spare", "u1")]
+    np.save(tmp_path / "spots.npy", np.frombuffer(m.old * 2, then))
+    spots = np.load(tmp_path / "spots.npy")
+    sized = u.join_old(spots, m.set, m.shape)
+    assert spots.dtype == u.OLD_SPOT and sized.dtype == u.OLD_SIZED and sized.tobytes() == m.old_sized * 2 and "dx" not in sized.dtype.names
+    then += [("size", "<f4"), ("row", "<u2"), ("col", "<u2"), ("accepted", "?"), ("cause", "u1"), ("spare_sized", "u1", (2,))]
+    np.save(tmp_path / "sized.npy", np.frombuffer(m.old_sized, then))
+    assert np.load(tmp_path / "sized.npy").dtype == u.OLD_SIZED
+
+
 def test_records_that_were_kept_before_causes_were_given(m, tmp_path):
-    """numpy reads them as they were; the same bytes as SIZED have no cause."""
-    old = np.dtype(u.SPOT.descr + [("size", "<f4"), ("row", "<u2"), ("col", "<u2"), ("accepted", "?"), ("spare_sized", "u1", (3,))])
+    """numpy reads them as they were; the same bytes as OLD_SIZED have no cause."""
+    old = np.dtype(u.OLD_SPOT.descr + [("size", "<f4"), ("row", "<u2"), ("col", "<u2"), ("accepted", "?"), ("spare_sized", "u1", (3,))])
     np.save(tmp_path / "old.npy", np.zeros(2, old))
-    kept = np.load(tmp_path / "old.npy").view(u.SIZED)
-    assert kept.dtype == u.SIZED and not kept["accepted"].any() and not kept["cause"].any()
+    kept = np.load(tmp_path / "old.npy").view(u.OLD_SIZED)
+    assert kept.dtype == u.OLD_SIZED and not kept["accepted"].any() and not kept["cause"].any()

@@ -9,6 +9,7 @@ import numpy as np
 import odd
 import pytest
 from hypothesis import given, strategies as st
+from mapm import MapM
 
 import uramsheg as u
 from uramsheg import _native, missing, refusals
@@ -43,6 +44,7 @@ def test_1_size(m):
         assert "use scene" in str(refused(u.SizeRefused, u.levels, wide, b"", 6, out=EMPTY))
         refused(u.SizeRefused, u.downsample, wide)
         refused(u.SizeRefused, u.join, b"1", b"", shape)
+        refused(u.SizeRefused, u.join_old, b"1", b"", shape)
     assert len(u.detect([np.zeros((4096, 3), "f4")] * 4, m.set, GIVEN)) == 0
 
 
@@ -73,8 +75,8 @@ def test_3_octave(m):
 
 def test_4_set(m):
     bad = m.set[:4] + b"\xff\xff\xff\xff" + m.set[8:527] + b"\1"
-    for call in (lambda: u.detect(m.levels(), bad, GIVEN), lambda: u.join(b"1", bad, m.shape), lambda: u.correct((1, 2, 3, 4), bad, 2, True),
-                 lambda: u.read_set(bad), lambda: u.levels(M, bad, 5, out=EMPTY)):
+    for call in (lambda: u.detect(m.levels(), bad, GIVEN), lambda: u.join(b"1", bad, m.shape), lambda: u.join_old(b"1", bad, m.shape),
+                 lambda: u.correct((1, 2, 3, 4), bad, 2, True), lambda: u.read_set(bad), lambda: u.levels(M, bad, 5, out=EMPTY)):
         assert refused(u.SetRefused, call).detail == "sigmas[1] is not finite; spare[2] is 1, not 0"
     assert "527 bytes" in str(refused(u.SetRefused, u.read_set, m.set[:-1]))
     assert u.read_set(m.set).to_bytes() == m.set
@@ -86,18 +88,16 @@ def test_5_records(m):
     bad["key"][1:] = 90
     assert refused(u.RecordsRefused, u.join, bad, m.set, m.shape).index == 1
     error = refused(u.RecordsRefused, u.join, spots.tobytes()[:-1], m.set, m.shape)
-    assert error.index == 2 and "119 bytes are 2 records and 39 bytes more" in str(error)
+    assert error.index == 2 and error.detail == "143 bytes are 2 records and 47 bytes more"
 
 
-@given(st.integers(0, 119), st.integers(0, 255), st.integers(0, 120))
+@given(st.integers(0, 143), st.integers(0, 255), st.integers(0, 144))
 def test_5_is_the_c_face_s_own(place, byte, length):
-    record, thresholds, shape, _, floats = cface.case("list")
-    levels = [np.array(level, "f4").reshape(shape, order="F") for level in np.reshape(floats, (4, -1))]
-    listed = bytearray(np.concatenate([u.detect(levels, record, thresholds)] * 3).tobytes())
+    listed = bytearray(MapM.line * 3)
     listed[place] = byte
-    number, value, out = cface.join(record, shape, bytes(listed[:length]), 52 * (length // 40))
+    number, value, out = cface.join(T, MapM.shape, bytes(listed[:length]), cface.SIZED * (length // cface.SPOT))
     try:
-        assert (number, u.join(listed[:length], record, shape).tobytes()) == (0, out)
+        assert (number, u.join(listed[:length], T, MapM.shape).tobytes()) == (0, out)
     except u.RecordsRefused as error:
         assert (number, value) == (5, error.index)
 
@@ -213,7 +213,7 @@ def test_what_is_no_argument_is_no_refusal(m):
     wrong = [
         lambda: u.detect(levels[:3], m.set, GIVEN), lambda: u.detect([np.zeros(90)] * 4, m.set, GIVEN), lambda: u.detect([M > 0] * 4, m.set, GIVEN),
         lambda: u.detect([M + 1j] * 4, m.set, GIVEN), lambda: u.detect(levels, "standard", GIVEN), lambda: u.detect(levels, 528, GIVEN),
-        lambda: u.detect(levels, m.set, GIVEN, 0.5), lambda: u.detect(levels, m.set, (1,) * 6), lambda: u.join(M, m.set, m.shape),
+        lambda: u.detect(levels, m.set, GIVEN, 0.5), lambda: u.detect(levels, m.set, (1,) * 6), lambda: u.join(M, m.set, m.shape), lambda: u.join_old(M, m.set, m.shape),
         lambda: u.join(b"", m.set, m.shape, out=M), lambda: u.correct((1, 2, 3), m.set, 1, True), lambda: u.octave_count("9", 9),
         lambda: u.levels(np.zeros(90), m.set), lambda: u.levels(M > 0, m.set), lambda: u.levels(M, 528), lambda: u.levels(M, m.set, 0.5),
         lambda: u.levels(M, m.set, out=EMPTY[:3]), lambda: u.levels(M, m.set, out=[M] * 4), lambda: u.levels(M, m.set, out=[np.zeros(90) for _ in range(4)]),
@@ -239,7 +239,7 @@ def test_levels_must_not_overlap_the_map_nor_each_other(m):
 
 
 def test_out_and_spots_must_not_overlap(m):
-    room = np.zeros(52, "u1")
-    spots = room[:40].view(u.SPOT)
-    with pytest.raises(ValueError, match="overlap"):
-        u.join(spots, m.set, m.shape, out=room.view(u.SIZED))
+    for call, spot, sized in ((u.join, u.SPOT, u.SIZED), (u.join_old, u.OLD_SPOT, u.OLD_SIZED)):
+        room = np.zeros(sized.itemsize, "u1")
+        with pytest.raises(ValueError, match="overlap"):
+            call(room[: spot.itemsize].view(spot), m.set, m.shape, out=room.view(sized))

@@ -75,6 +75,8 @@ def test_what_stands_in_it(here):
     assert [row[0] for row in spots[1:]] == ["1", "2", "3"] and [float(row[1]) for row in spots[1:]] == pytest.approx(found.spots["x"], abs=0.006)
     assert spots[0][5] == "size, m" and [row[5] for row in spots[1:]] == [""] * 3
     assert spots[0][-1] == "why no size" and [row[-1] for row in spots[1:]] == [""] * 3
+    for at, name in ((9, "dx"), (10, "dy")):
+        assert spots[0][at] == f"{name}, pixels" and [row[at] for row in spots[1:]] == [f"{move:.4f}" for move in found.spots[name]]
     numbers = dict(run)
     assert numbers["Version"] == f"uramsheg {u.__version__}" and numbers["Map"] == "a<b>&c.npy" and numbers["Set of tables"] == "standard"
     assert (numbers["Least peak"], numbers["Least signal to noise"], numbers["Kind"], numbers["Unit"]) == ("none", "20", "bright", "not stated")

@@ -19,7 +19,7 @@ T, GIVEN, *_ = cface.case("list")
 TABLES = u.standard()
 NAN = float("nan")
 #: what a scene and an untiled list agree in
-SAME = ("sigma", "peak", "samples", "octave", "scale_index", "is_max", "size", "accepted", "cause")
+SAME = ("sigma", "peak", "samples", "octave", "scale_index", "is_max", "dx", "dy", "size", "accepted", "cause")
 
 
 def specks(shape, *places):
@@ -86,7 +86,7 @@ def by_rows(spots):
 
 def test_map_m_is_a_scene_of_one_tile(m):
     (spot,) = u.scene(m.levels(), m.set, m.thresholds, m.octave)
-    assert spot.tobytes() == due(m.shape, (4, 4)).tobytes() and spot.tobytes()[4:44] == m.line
+    assert spot.tobytes() == due(m.shape, (4, 4)).tobytes() and spot.tobytes()[4:52] == m.line
     assert (spot["scene_x"], spot["scene_y"], spot["scene_row"], spot["scene_col"], f"{spot['size']:.6f}") == (4.5, 4, 4, 4, "2.828427")
 
 
@@ -209,7 +209,7 @@ def same_as_c(four, levels, record, thresholds, octave):
     lengths = [min(four[0].shape[0], 4096) * min(four[0].shape[1], 4096) + more for more in (0, 3, 0, 1)]
     number, value, out, _ = cface.scene(record, thresholds, four, octave, lengths, len(found) + 1)
     assert (number, value) == (0, len(found))
-    assert tiled(found) + b"\xa5" * 56 == out
+    assert tiled(found) + b"\xa5" * cface.SCENE == out
     return len(found)
 
 
@@ -243,7 +243,7 @@ def test_whole_tiles_are_written_where_room_ends():
     rooms = [(6, 0, 0, 0), (6, 0, 0, 0), (6, 2, 2, 2), (6, 3, 3, 3), (0, 4, 4, 3), (0, 4, 4, 3)]
     for room, (number, value, held, last) in enumerate(rooms):
         told, answered, out, slices = cface.scene(T, GIVEN, four, 0, [12 * 4096 + 2] * 4, room)
-        assert (told, answered, out) == (number, value, listed[: 56 * held] + b"\xa5" * 56 * (room - held))
+        assert (told, answered, out) == (number, value, listed[: cface.SCENE * held] + b"\xa5" * cface.SCENE * (room - held))
         for level, floats in zip(four, slices):
             kept = np.full(12 * 4096 + 2, 7, "f4")
             for k in range(last + 1):
@@ -257,7 +257,7 @@ def rooms_of(monkeypatch, call):
     rooms = []
 
     def watched(*words):
-        rooms.append(words[-2] // 56)
+        rooms.append(words[-2] // cface.SCENE)
         assert len(rooms) < 30
         return call(*words)
 
@@ -297,7 +297,7 @@ def test_the_first_refusal_is_the_c_face_s_own(shape, equal, octave, lost, good)
     four = [np.zeros(shape, "f4") for _ in range(3)] + [np.zeros(shape if equal else (shape[1] + 1, shape[0]), "f4")]
     number, value, out, slices = cface.scene(record, limits, four, octave, [4096 * min(shape)] * 4, 1)
     first = 10 if max(shape) > 16384 else 2 if not equal else 3 if octave > 5 else 8 if lost else 4 if not good else 0
-    assert (number, value, out) == (first, 0, b"\xa5" * 56)
+    assert (number, value, out) == (first, 0, b"\xa5" * cface.SCENE)
     try:
         assert len(u.scene(four, record, limits, octave)) == 0 and first == 0
     except u.Refused as error:
@@ -308,7 +308,7 @@ def test_the_first_refusal_is_the_c_face_s_own(shape, equal, octave, lost, good)
 def test_short_slices_are_refused_by_the_c_face_and_nothing_is_written(short):
     lengths = [9 * 4096 - (place == short) for place in range(4)]
     answer = cface.scene(T, GIVEN, specks((9, 4100), (4, 4)), 0, lengths, 2)
-    assert answer == (6, 0, b"\xa5" * 112, [np.full(length, 7, "f4").tobytes() for length in lengths])
+    assert answer == (6, 0, b"\xa5" * 2 * cface.SCENE, [np.full(length, 7, "f4").tobytes() for length in lengths])
 
 
 def test_a_scene_names_what_is_refused():
