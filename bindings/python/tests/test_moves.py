@@ -69,10 +69,10 @@ BITS = st.one_of(st.sampled_from([0, 0x80000000, 1, 0x3F000000, 0x3F19999A, 0xBF
 
 
 @given(st.lists(st.tuples(BITS, BITS), min_size=1, max_size=5))
-def test_a_displacement_is_readable_to_0_6_either_way(given):
+def test_a_displacement_is_readable_to_0_6_either_way(bits):
     """The first record with another is refused with its place. Those that are readable are kept bit for bit, and none is compared with x, y and the key."""
-    spots = np.frombuffer(MapM.line * len(given), u.SPOT).copy()
-    spots["dx"], spots["dy"] = np.array(given, "u4").view("f4").T
+    spots = np.frombuffer(MapM.line * len(bits), u.SPOT).copy()
+    spots["dx"], spots["dy"] = np.array(bits, "u4").view("f4").T
     bad = np.flatnonzero(~((abs(spots["dx"]) <= moves.LIMIT) & (abs(spots["dy"]) <= moves.LIMIT)))
     try:
         sized = u.join(spots, T, SHAPE)

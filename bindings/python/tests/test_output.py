@@ -1,5 +1,4 @@
 """Spots in files, read back by others."""
-import contextlib
 import csv
 import json
 import os
@@ -68,19 +67,25 @@ def test_geopackage(tmp_path):
             assert feature["geometry"]["coordinates"] == (spot["map_x"], spot["map_y"]) and feature["properties"]["height"] == spot["height"]
 
 
+def rows_in(path):
+    """The rows of a file of spots, by name."""
+    if path.suffix == ".csv":
+        return list(csv.DictReader(path.read_text().splitlines()))
+    if path.suffix == ".gpkg":
+        with fiona.open(path) as source:
+            return [dict(feature["properties"]) for feature in source]
+    return [feature["properties"] for feature in json.loads(path.read_text())["features"]]
+
+
 def test_displacements(tmp_path):
     """In every kind of file as in the table, the small ones too."""
     spots = found()
     spots.spots["dx"][1], spots.spots["dy"][1] = 2.0**-149, -0.6
     for ending in ("geojson", "csv", "gpkg"):
-        path = tmp_path / f"spots.{ending}"
-        output.save(str(path), spots)
-        if ending == "csv":
-            rows = list(csv.DictReader(path.read_text().splitlines()))
-        else:
-            with fiona.open(path) if ending == "gpkg" else contextlib.nullcontext(json.loads(path.read_text())["features"]) as source:
-                rows = [dict(feature["properties"]) for feature in source]
-        assert all([float(row[name]) for row in rows] == spots.spots[name].tolist() and len(rows) == 2 for name in ("dx", "dy")) and abs(float(rows[0]["dx"]) - 0.2) < 0.02
+        output.save(str(tmp_path / f"spots.{ending}"), spots)
+        rows = rows_in(tmp_path / f"spots.{ending}")
+        assert len(rows) == 2 and float(rows[0]["dx"]) == pytest.approx(0.2, abs=0.02)
+        assert all([float(row[name]) for row in rows] == spots.spots[name].tolist() for name in ("dx", "dy"))
 
 
 def test_causes(tmp_path):
