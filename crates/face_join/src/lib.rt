@@ -56,8 +56,8 @@ pub fn join_old<'a>(
     ensures { λ r. ⌜ left r (now (value .exit)) (now (out .exit))
         ≡ joinOldFace (now (set .entry)) rows cols (now (list .entry)) (now (out .entry)) ⌝ }
 {
-    let read = tables::read_set(set);
-    let tables = read.set;
+    let held = tables::read_set(set);
+    let tables = held.set;
     let answer = join::join_old(tables, rows, cols, list, out);
     *value = value_of(answer);
     number_of(answer)
