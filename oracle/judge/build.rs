@@ -12,7 +12,7 @@ mod fixed_sets;
 mod substitutions;
 
 const PUBLISHED: [&str; 4] = ["scale_fit.rs", "reference.rs", "stream.rs", "blur.rs"];
-const DOCUMENT: [&str; 12] = [
+const DOCUMENT: [&str; 13] = [
     "admission.rs",
     "causes.rs",
     "columns.rs",
@@ -22,6 +22,7 @@ const DOCUMENT: [&str; 12] = [
     "here.rs",
     "levels.rs",
     "list.rs",
+    "moves.rs",
     "record.rs",
     "scene.rs",
     "steps.rs",

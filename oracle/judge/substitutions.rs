@@ -12,7 +12,7 @@ pub enum Substitution {
 use Substitution::{At, Call, Word};
 
 /// What the published text's own `use` of the tables gives way to.
-const NAMES: &str = "use crate::admission::admits;\nuse crate::causes::{self, no_size, no_statistic};\nuse crate::counting::{self, let_pass, said};\nuse crate::here::{ByRules as _, SumByRules as _, here};\n";
+const NAMES: &str = "use crate::admission::admits;\nuse crate::causes::{self, no_size, no_statistic};\nuse crate::counting::{self, let_pass, said};\nuse crate::here::{ByRules as _, SumByRules as _, here};\nuse crate::moves;\n";
 
 pub const SCALE_FIT: &[Substitution] = &[
     // The set's names.
@@ -163,12 +163,27 @@ pub const REFERENCE: &[Substitution] = &[
     Call(".max(", ".max_here(", 5),
     Call(".min(", ".min_here(", 3),
     Call(".clamp(", ".clamp_here(", 1),
+    // and the same refinement of a spot at (0, 0).
     At(
         "255.28+70 e2156df08ed3",
-        "`old`
-                        && admits(rows, cols, row * cols + col, &geometry, &center, |index| {
-                            `240.33+49 bea8d7e13f5e`
-                        })",
+        "{
+                            let before = geometry;
+                            `old`
+                                && admits(
+                                    (rows, cols),
+                                    row * cols + col,
+                                    &mut geometry,
+                                    {
+                                        let mut geometry = moves::still(&before);
+                                        let accepted = `255.28+70 e2156df08ed3`;
+                                        moves::displacement(accepted, &geometry)
+                                    },
+                                    &center,
+                                    |index| {
+                                        `240.33+49 bea8d7e13f5e`
+                                    },
+                                )
+                        }",
     ),
     // The columns that are chosen: the one that a feed judges, those of a scene where a pixel is not 0.
     At("214.24+21 3bf3f8eb063e", "crate::columns::judged_of(`old`)"),
@@ -205,14 +220,28 @@ pub const STREAM: &[Substitution] = &[
     // Document 01's named differences.
     Call(".max(", ".max_here(", 2),
     Call(".min(", ".min_here(", 1),
+    // and the same refinement of a spot at (0, 0).
     At(
-        "438.89+1 e17c89a53989",
-        "
-            && admits(log.rows, cols, row * cols + col, &geometry, &samples, |index| {
-                `409.17+56 044465fbc18c`
-                `410.46+51 ea0e04b3ef05`
-            })
-        ",
+        "438.12+77 5b06bde8d9e8",
+        "{
+            let before = geometry;
+            `old`
+                && admits(
+                    (log.rows, cols),
+                    row * cols + col,
+                    &mut geometry,
+                    {
+                        let mut geometry = moves::still(&before);
+                        let accepted = `438.12+77 5b06bde8d9e8`;
+                        moves::displacement(accepted, &geometry)
+                    },
+                    &samples,
+                    |index| {
+                        `409.17+56 044465fbc18c`
+                        `410.46+51 ea0e04b3ef05`
+                    },
+                )
+        }",
     ),
 ];
 

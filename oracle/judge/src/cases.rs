@@ -1,6 +1,6 @@
 //! Document 01's cases P9 to P12, as the judge answers them.
 
-use crate::record::floats;
+use crate::record::{SPOT, floats};
 use crate::{Logs, Rules, Set, correct, list_program};
 
 /// The list program's input for map M, with one pixel of level 0 NaN if a place is given.
@@ -32,7 +32,7 @@ fn printed(lost: Option<(usize, usize)>) -> String {
 fn corrected_as_minimum() -> String {
     let line = printed(None);
     let byte = |k: usize| u8::from_str_radix(&line[2 * k..2 * k + 2], 16).unwrap();
-    let record: Vec<u8> = (0..40).map(byte).collect();
+    let record: Vec<u8> = (0..SPOT).map(byte).collect();
     let [_, _, sigma, _, samples @ ..] = floats(&record);
     match correct(
         Rules::Document,

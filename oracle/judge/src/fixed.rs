@@ -1,6 +1,6 @@
 //! The published text as it stands, byte for byte, for the few sets that are real constants in it.
 
-use crate::entries::write_spots;
+use crate::entries::write_old_spots;
 use crate::fixed_builds as builds;
 use crate::shims::math_compat;
 use crate::{Answer, Logs, Map, Pass, Set, entries, fixed_sets};
@@ -25,11 +25,11 @@ macro_rules! of_build {
     };
 }
 
-/// Detection by one of the passes.
+/// Detection by one of the passes; this text tells no displacement, and its records are former ones.
 pub fn detect(index: usize, pass: Pass, map: Map, out: &mut [u8]) -> Answer {
     match entries::detection_refusal(set(index).good(), map) {
         Some(number) => Answer::Refused { number, index: 0 },
-        None => write_spots(&of_build!(index, offered, detect(pass, map)).1, out),
+        None => write_old_spots(&of_build!(index, offered, detect(pass, map)).1, out),
     }
 }
 
@@ -51,6 +51,17 @@ pub fn correct(
     let size = of_build!(index, offered, correct(&samples, sigma, is_max));
     math_compat::choose(before);
     size.ok_or(7)
+}
+
+/// How far the refinement by these cubics moves a spot of this sigma and polarity, if it accepts it.
+pub fn displacement(
+    index: usize,
+    sigma: f32,
+    is_max: bool,
+    cubics: &[[f32; 4]; 9],
+    ratio: f32,
+) -> Option<[f32; 2]> {
+    of_build!(index, offered, displacement(sigma, is_max, cubics, ratio))
 }
 
 pub fn octave_count(rows: usize, cols: usize) -> usize {

@@ -2,6 +2,8 @@
 
 use super::blur::BaseImage;
 use super::{GrayImage, reference, scale_fit, stream};
+use crate::extraction::ScaleSpaceKeypoint;
+use crate::moves;
 use crate::record::Spot;
 use crate::{Map, Pass, Thresholds};
 use std::time::Instant;
@@ -15,9 +17,11 @@ fn params(th: Thresholds) -> stream::DetectionParams {
     }
 }
 
-fn spots(candidates: Vec<stream::Candidate>) -> Vec<Spot> {
+/// The candidates with the displacements noted of them; the text as it stands notes none.
+fn spots(candidates: Vec<stream::Candidate>, noted: &[[f32; 2]]) -> Vec<Spot> {
     let spot = |candidate: stream::Candidate| Spot {
         geometry: candidate.geometry,
+        moved: moves::of(noted, &candidate.geometry),
         samples: candidate.scale_samples,
         key: candidate.order_key,
     };
@@ -36,9 +40,11 @@ pub fn detect(pass: Pass, map: Map) -> (f64, Vec<Spot>) {
     } = map;
     let (params, pixels) = (params(thresholds), levels.concat());
     let timed = |run: &dyn Fn() -> Vec<stream::Candidate>| {
+        moves::taken();
         let began = Instant::now();
         let candidates = run();
-        (began.elapsed().as_secs_f64(), spots(candidates))
+        let seconds = began.elapsed().as_secs_f64();
+        (seconds, spots(candidates, &moves::taken()))
     };
     match pass {
         Pass::Reference => {
@@ -52,6 +58,27 @@ pub fn detect(pass: Pass, map: Map) -> (f64, Vec<Spot>) {
             timed(&|| stream::detect_octave(base(), octave, Some(&params), false).candidates)
         }
     }
+}
+
+/// Where the refinement by these cubics ends that starts at (0, 0), if it accepts the spot.
+pub fn displacement(
+    sigma: f32,
+    is_max: bool,
+    cubics: &[[f32; 4]; 9],
+    ratio: f32,
+) -> Option<[f32; 2]> {
+    let mut still = ScaleSpaceKeypoint {
+        x: 0.0,
+        y: 0.0,
+        sigma,
+        orientation: 0.0,
+        peak: 0.0,
+        octave: 0,
+        scale_index: 0,
+        is_max,
+    };
+    let accepted = scale_fit::refine_keypoint_2d(&mut still, cubics, ratio);
+    accepted.then_some([still.x, still.y])
 }
 
 pub fn correct(samples: &[f32; 4], sigma: f32, is_max: bool) -> Option<f32> {

@@ -1,6 +1,6 @@
 //! The text as published and the text with a run-time set give the same bytes, and so do its two passes; no fixed set's radius is above 14.
 
-use judge::{Answer, Logs, Map, Pass, RawMap, Rules, Thresholds, fixed};
+use judge::{Answer, Logs, Map, OLD_SPOT, Pass, RawMap, Rules, SPOT, Thresholds, fixed, inner};
 
 /// Splitmix: a seeded stream of words.
 struct Random(u64);
@@ -92,9 +92,19 @@ const PASSES: [Pass; 2] = [Pass::Reference, Pass::Streaming];
 type Listed = (Answer, Vec<u8>);
 
 fn listed(find: impl Fn(&mut [u8]) -> Answer) -> Listed {
-    let mut out = vec![0; 40 * 4000];
+    let mut out = vec![0; SPOT * 4000];
     let answer = find(&mut out);
     (answer, out)
+}
+
+/// A list's former records, as the text as it stands lists them.
+fn cut((answer, list): &Listed) -> Listed {
+    let mut former: Vec<u8> = list
+        .chunks_exact(SPOT)
+        .flat_map(|record| record[..OLD_SPOT].to_vec())
+        .collect();
+    former.resize(list.len(), 0);
+    (*answer, former)
 }
 
 fn count((answer, _): &Listed) -> usize {
@@ -137,7 +147,7 @@ fn both_builds_and_both_passes_list_the_same_bytes() {
                 );
                 if rules == Rules::Published {
                     assert!(
-                        as_published == run,
+                        as_published == cut(&run),
                         "{} map {number}: the two builds",
                         fixed::NAMES[index]
                     );
@@ -193,6 +203,51 @@ fn both_builds_correct_to_the_same_bits() {
             "{}: {sizes} sizes in 80000 corrections",
             fixed::NAMES[index]
         );
+    }
+}
+
+#[test]
+fn both_builds_move_a_spot_as_far() {
+    for index in 0..fixed::NAMES.len() {
+        let set = fixed::set(index);
+        let mut random = Random(313 + index as u64);
+        let (mut accepted, mut zeros) = (0, 0);
+        for case in 0..40_000 {
+            let is_max = case % 2 == 0;
+            let size = if is_max { -1.0 } else { 1.0 };
+            let coarse = random.below(4) == 0;
+            // A bowl at each sigma: the middle lowest, then shaken.
+            let cubics = core::array::from_fn(|place| {
+                let off = [2.0, 1.0, 2.0, 1.0, 0.0, 1.0, 2.0, 1.0, 2.0f32][place];
+                let shake = random.unit();
+                let shake = if coarse { shake.round() } else { 0.6 * shake };
+                [0.0, 0.0, 0.0, size * (off + shake)]
+            });
+            let (sigma, ratio) = (random.pick(&set.sigmas), random.pick(&[10.0, 1e6]));
+            let as_published = fixed::displacement(index, sigma, is_max, &cubics, ratio);
+            let mut spot = inner::Spot {
+                x: 0.0,
+                y: 0.0,
+                sigma,
+                peak: 0.0,
+                scale_index: 0,
+                is_max,
+            };
+            let taken =
+                inner::refine_keypoint_2d(Rules::Published, &set, &mut spot, &cubics, ratio);
+            let run = taken.then_some([spot.x, spot.y]);
+            let bits = |moved: Option<[f32; 2]>| moved.map(|moved| moved.map(f32::to_bits));
+            assert!(
+                bits(as_published) == bits(run),
+                "{} case {case}",
+                fixed::NAMES[index]
+            );
+            let moved = run.into_iter().flatten();
+            accepted += usize::from(taken);
+            zeros += moved.filter(|delta| delta.to_bits() == 0).count();
+        }
+        println!("{}: {accepted} of 40000 accepted, {zeros} zeros", fixed::NAMES[index]);
+        assert!(accepted > 200, "{}: too few", fixed::NAMES[index]);
     }
 }
 

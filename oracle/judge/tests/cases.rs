@@ -1,12 +1,15 @@
 //! Numbers of documents 01 and 02, from the judge.
 
-use judge::{Answer, Logs, Map, NoSize, Pass, RawMap, Rules, Set, Thresholds, inner, levels};
+use judge::{
+    Answer, Logs, Map, NoSize, OLD_SIZED, OLD_SPOT, Pass, RawMap, Rules, SIZED, SPOT, Set,
+    Thresholds, inner, levels,
+};
 
 const RULES: [Rules; 2] = [Rules::Published, Rules::Document];
 
 #[test]
 fn the_printed_cases_are_document_01s() {
-    let line = "00009040000080400000004000008040000080bf0000804000000000000000002c00000000010100\nfound 1\n";
+    let line = "00009040000080400000004000008040000080bf0000804000000000000000002c000000000101000000003f00000000\nfound 1\n";
     let expected = [
         ("P9", line),
         ("P10", "found 0\n"),
@@ -170,9 +173,9 @@ fn detection_refuses_in_the_tables_order() {
         (&bad, blank, 4097, 6, 1),
         (&good, TH, 4097, 0, 1),
     ] {
-        let mut out = [7; 40];
+        let mut out = [7; 48];
         let answer = detected(set, thresholds, rows, octave, [&level; 4], &mut out);
-        assert_eq!((number(answer), out), (expected, [7; 40]));
+        assert_eq!((number(answer), out), (expected, [7; 48]));
     }
 }
 
@@ -221,7 +224,7 @@ fn in_the_rust_nothing_passes_another_limit_that_is_nan() {
 fn short_spot_buffers_keep_their_other_bytes() {
     let pixels = pixels_of_m();
     let levels: [&[f32]; 4] = core::array::from_fn(|k| &pixels[90 * k..90 * (k + 1)]);
-    for (room, written) in [(0, 0), (39, 0), (40, 40), (79, 40), (100, 40)] {
+    for (room, written) in [(0, 0), (47, 0), (48, 48), (95, 48), (120, 48)] {
         let mut out = vec![0xa5; room];
         let answer = detected(&Set::t(), TH, 9, 0, levels, &mut out);
         assert_eq!(answer, Answer::Done(1));
@@ -268,37 +271,116 @@ fn the_list_program_refuses_in_its_order() {
 fn record_of_m() -> Vec<u8> {
     let line = judge::cases::all()[0].1.clone();
     let byte = |k: usize| u8::from_str_radix(&line[2 * k..2 * k + 2], 16).unwrap();
-    (0..40).map(byte).collect()
+    (0..SPOT).map(byte).collect()
+}
+
+/// One of the two joins.
+type Join = fn(Logs, &Set, usize, usize, &[u8], &mut [u8]) -> Answer;
+
+/// Both joins with the bytes of their records and of their sized records.
+const JOINS: [(Join, usize, usize); 2] = [
+    (judge::join, SPOT, SIZED),
+    (judge::join_old, OLD_SPOT, OLD_SIZED),
+];
+
+#[test]
+fn both_joins_refuse_in_their_order_and_size_p9() {
+    for (join, spot, sized) in JOINS {
+        let record = &record_of_m()[..spot];
+        let mut bad = Set::t();
+        bad.numbers[10] = -1.0;
+        let run = |set: &Set, rows, list: &[u8], room: usize| {
+            let mut out = vec![9; room];
+            let answer = join(Logs::Steps, set, rows, 10, list, &mut out);
+            (answer, out)
+        };
+        let refused = |number, index| Answer::Refused { number, index };
+        let mut twice = [record, record].concat();
+        for length in spot + 1..2 * spot {
+            assert_eq!(run(&bad, 4097, &twice[..length], 0).0, refused(1, 0));
+            assert_eq!(run(&bad, 9, &twice[..length], 0).0, refused(4, 0));
+            assert_eq!(run(&Set::t(), 9, &twice[..length], 0).0, refused(5, 1));
+        }
+        assert_eq!(run(&Set::t(), 4, &twice, 0).0, refused(5, 0));
+        let room = 2 * sized - 1;
+        assert_eq!(
+            run(&Set::t(), 9, &twice, room),
+            (refused(6, 0), vec![9; room])
+        );
+        twice[spot + 39] = 1;
+        assert_eq!(run(&Set::t(), 9, &twice, 0).0, refused(5, 1));
+        let (answer, out) = run(&Set::t(), 9, record, sized + 8);
+        assert_eq!((answer, &out[..spot]), (Answer::Done(1), record));
+        assert_eq!(out[spot + 4..spot + 8], [4, 0, 5, 0]);
+        assert_eq!((&out[spot + 9..sized], &out[sized..]), (&[0; 3][..], &[9; 8][..]));
+    }
 }
 
 #[test]
-fn the_join_refuses_in_its_order_and_sizes_p9() {
+fn a_list_of_the_other_form_is_no_whole_number_of_records() {
     let record = record_of_m();
-    let mut bad = Set::t();
-    bad.numbers[10] = -1.0;
-    let run = |set: &Set, rows, list: &[u8], room: usize| {
-        let mut out = vec![9; room];
-        let answer = judge::join(Logs::Steps, set, rows, 10, list, &mut out);
-        (answer, out)
+    let of = |join: Join, list: &[u8]| join(Logs::Steps, &Set::t(), 9, 10, list, &mut [0; 60]);
+    let refused = |index| Answer::Refused { number: 5, index };
+    assert_eq!(of(judge::join, &record[..OLD_SPOT]), refused(0));
+    assert_eq!(of(judge::join_old, &record), refused(1));
+}
+
+#[test]
+fn what_an_old_list_gives_is_the_joins_without_the_displacement() {
+    let record = record_of_m();
+    let (mut present, mut former) = ([0; SIZED], [0; OLD_SIZED]);
+    judge::join(Logs::Steps, &Set::t(), 9, 10, &record, &mut present);
+    judge::join_old(Logs::Steps, &Set::t(), 9, 10, &record[..OLD_SPOT], &mut former);
+    assert_eq!(former[..], [&present[..OLD_SPOT], &present[SPOT..]].concat());
+}
+
+#[test]
+fn a_record_is_bad_where_its_displacement_is_too_far_or_not_finite() {
+    let farthest = f32::from_bits(0x3f19_999a);
+    let fine = [0.0, -0.0, 0.5, farthest, -farthest, 1e-45, -f32::MIN_POSITIVE];
+    let bad = [
+        farthest.next_up(),
+        (-farthest).next_down(),
+        1.0,
+        f32::MAX,
+        f32::INFINITY,
+        f32::NEG_INFINITY,
+        f32::NAN,
+        -f32::NAN,
+    ];
+    let answer = |at: usize, delta: f32| {
+        let mut record = record_of_m();
+        record[at..at + 4].copy_from_slice(&delta.to_le_bytes());
+        let mut out = [0; SIZED];
+        let answer = judge::join(Logs::Steps, &Set::t(), 9, 10, &record, &mut out);
+        (answer, out[..SPOT] == record)
     };
-    let refused = |number, index| Answer::Refused { number, index };
-    let mut twice = [record.clone(), record.clone()].concat();
-    assert_eq!(run(&bad, 4097, &twice[..41], 0).0, refused(1, 0));
-    assert_eq!(run(&bad, 9, &twice[..41], 0).0, refused(4, 0));
-    assert_eq!(run(&Set::t(), 9, &twice[..41], 0).0, refused(5, 1));
-    assert_eq!(run(&Set::t(), 4, &twice, 0).0, refused(5, 0));
-    assert_eq!(
-        run(&Set::t(), 9, &twice, 103),
-        (refused(6, 0), vec![9; 103])
-    );
-    twice[79] = 1;
-    assert_eq!(run(&Set::t(), 9, &twice, 0).0, refused(5, 1));
-    let (answer, out) = run(&Set::t(), 9, &record, 60);
-    assert_eq!(
-        (answer, &out[..40], &out[44..48]),
-        (Answer::Done(1), &record[..], &[4, 0, 5, 0][..])
-    );
-    assert_eq!((&out[49..52], &out[52..]), (&[0; 3][..], &[9; 8][..]));
+    for at in [40, 44] {
+        for delta in fine {
+            assert_eq!(answer(at, delta), (Answer::Done(1), true), "{delta:e}");
+        }
+        for delta in bad {
+            let refused = Answer::Refused {
+                number: 5,
+                index: 0,
+            };
+            assert_eq!(answer(at, delta), (refused, false), "{delta:e}");
+        }
+    }
+}
+
+#[test]
+fn a_displacement_of_no_size_is_stored_as_plus_zero() {
+    for weight in [0.0, -0.0f32] {
+        let mut set = Set::t();
+        for place in [27, 36, 45 + 27, 45 + 36] {
+            set.spatial[place + 4] = weight;
+        }
+        let mut input = judge::cases::map_m(None);
+        input[..528].copy_from_slice(&set.to_record());
+        let line = String::from_utf8(judge::list_program(&input, true)).unwrap();
+        assert_eq!(&line[80..96], "0000000000000000");
+    }
 }
 
 /// The size that a set gives these samples, or the refusal's number and its cause, by both rules and both logarithms.
@@ -406,12 +488,12 @@ fn a_sized_record_tells_its_cause_in_its_first_spare_byte() {
         .iter()
         .flat_map(|(record, _)| (*record).clone())
         .collect();
-    let mut out = [9; 6 * 52];
+    let mut out = [9; 6 * SIZED];
     let answer = judge::join(Logs::Steps, &Set::t(), 9, 10, &list, &mut out);
     assert_eq!(answer, Answer::Done(6));
-    for ((_, end), record) in due.iter().zip(out.chunks_exact(52)) {
-        assert_eq!(record[48..], end[..]);
-        assert_eq!(record[40..44] == [0; 4], end[0] == 0);
+    for ((_, end), record) in due.iter().zip(out.chunks_exact(SIZED)) {
+        assert_eq!(record[56..], end[..]);
+        assert_eq!(record[48..52] == [0; 4], end[0] == 0);
     }
 }
 
@@ -420,10 +502,10 @@ fn home(record: &[u8], x: f32, y: f32) -> [u16; 2] {
     let mut record = record.to_vec();
     record[..4].copy_from_slice(&x.to_le_bytes());
     record[4..8].copy_from_slice(&y.to_le_bytes());
-    let mut out = [9; 52];
+    let mut out = [9; SIZED];
     let answer = judge::join(Logs::Steps, &Set::t(), 4096, 4096, &record, &mut out);
     assert_eq!(answer, Answer::Done(1));
-    [44, 46].map(|at| u16::from_le_bytes([out[at], out[at + 1]]))
+    [52, 54].map(|at| u16::from_le_bytes([out[at], out[at + 1]]))
 }
 
 #[test]

@@ -7,7 +7,7 @@ const ROWS: usize = 9;
 const COLS: usize = 10;
 const THRESHOLDS: [f32; 5] = [1.0, 1.0, 10.0, 1.9027314, 4.1498866];
 const RECORD_OF_M: &str =
-    "00009040000080400000004000008040000080bf0000804000000000000000002c00000000010100";
+    "00009040000080400000004000008040000080bf0000804000000000000000002c000000000101000000003f00000000";
 
 fn sound(record: &[u8]) -> Start<'_> {
     Start {
@@ -87,12 +87,12 @@ fn column_of_m(number: usize) -> [Vec<f32>; 4] {
 fn map_ms_record_comes_with_the_column_two_further() {
     let mut feed = Feed::new();
     for number in 0..COLS {
-        let mut out = vec![0xa5; 81];
+        let mut out = vec![0xa5; 97];
         let answer = feed.give(&column_of_m(number), &mut out);
         let found = usize::from(number == 6);
         assert_eq!(answer, (0, found as u64));
         let listed: String = out.iter().map(|byte| format!("{byte:02x}")).collect();
-        let due = RECORD_OF_M.repeat(found) + &"a5".repeat(81 - 40 * found);
+        let due = RECORD_OF_M.repeat(found) + &"a5".repeat(97 - 48 * found);
         assert_eq!(listed, due);
         assert_eq!(feed.state[556..560], (number as u32 + 1).to_le_bytes());
         assert_eq!(feed.state[STATE], 0xa5);
@@ -113,12 +113,12 @@ fn a_column_refuses_in_its_order_and_changes_nothing() {
     let mut wrong = column_of_m(6);
     wrong[3].push(0.0);
     let (state, ring) = (feed.state.clone(), feed.ring.clone());
-    let mut out = [0xa5; 39];
+    let mut out = [0xa5; 47];
     assert_eq!(feed.give(&column_of_m(6), &mut out), (6, 0));
     assert_eq!(feed.give(&wrong, &mut out), (2, 0));
     feed.ring[2].truncate(RING * ROWS - 1);
     assert_eq!(feed.give(&wrong, &mut out), (2, 0));
-    assert_eq!(feed.give(&column_of_m(6), &mut [0; 40]), (6, 0));
+    assert_eq!(feed.give(&column_of_m(6), &mut [0; 48]), (6, 0));
     feed.ring = ring.clone();
     feed.state[556] = 10;
     assert_eq!(feed.give(&wrong, &mut out), (9, 0));
@@ -128,8 +128,8 @@ fn a_column_refuses_in_its_order_and_changes_nothing() {
     feed.state[549] = 0x10;
     assert_eq!(feed.give(&wrong, &mut out), (9, 0), "rows are 4105");
     feed.state = state;
-    assert_eq!((out, feed.ring.clone()), ([0xa5; 39], ring));
-    assert_eq!(feed.give(&column_of_m(6), &mut [0; 40]), (0, 1));
+    assert_eq!((out, feed.ring.clone()), ([0xa5; 47], ring));
+    assert_eq!(feed.give(&column_of_m(6), &mut [0; 48]), (0, 1));
 }
 
 #[test]
@@ -138,7 +138,7 @@ fn an_order_byte_that_names_no_sample_lists_nothing() {
         let mut feed = Feed::new();
         feed.state[place] = byte;
         let listed: u64 = (0..COLS)
-            .map(|number| feed.give(&column_of_m(number), &mut [0; 80]).1)
+            .map(|number| feed.give(&column_of_m(number), &mut [0; 96]).1)
             .sum();
         assert_eq!(listed, found, "byte {place} is {byte}");
     }

@@ -1,7 +1,7 @@
 //! Document 02's No. 7 from the judge: where tiles begin, a scene's refusals in their order, and what a call leaves.
 
 use judge::scene::{CUT, Call, Cut, RECORD, scene, untiled_sized};
-use judge::{Map, Set};
+use judge::{Map, SIZED, Set};
 
 const ROWS: usize = 9;
 const COLS: usize = 4100;
@@ -106,7 +106,7 @@ fn a_scene_refuses_in_its_order_and_writes_nothing() {
     all.thresholds.ratio = 10.0;
     assert_eq!(refused(&good[..527], all), (4, 0));
     assert_eq!(refused(&good, all), (6, 0));
-    assert_eq!(called(&good, all, [ROWS * 4096; 4], 100).0, (0, 1));
+    assert_eq!(called(&good, all, [ROWS * 4096; 4], RECORD).0, (0, 1));
 }
 
 /// Map M's spot in row 4 as a tile lists it: the tile's numbers, then its sized record with this x, key and home col.
@@ -117,9 +117,10 @@ fn record_of_m(numbers: [u8; 4], x: f32, key: u32, home: u16) -> Vec<u8> {
     }
     list.extend(key.to_le_bytes());
     list.extend([0, 1, 1, 0]);
-    let mut sized = vec![0; 52];
+    list.extend([0.5f32, 0.0].map(f32::to_le_bytes).concat());
+    let mut sized = vec![0; SIZED];
     judge::join(judge::Logs::Steps, &Set::t(), ROWS, 4096, &list, &mut sized);
-    assert_eq!(sized[44..48], [4, 0, home as u8, (home >> 8) as u8]);
+    assert_eq!(sized[52..56], [4, 0, home as u8, (home >> 8) as u8]);
     [&numbers[..], &sized].concat()
 }
 
@@ -166,8 +167,10 @@ fn a_home_is_the_tiles_own() {
     let (answer, _, out) = called(&set.to_record(), sound, [ROWS * 4096; 4], RECORD);
     assert_eq!((answer, &out[..4]), ((0, 1), &[0, 0, 1, 0][..]));
     assert_eq!(out[4..8], (4.0f32 + 0.499_99).to_le_bytes());
-    assert_eq!(out[48..52], [4, 0, 4, 0], "the scene's (4,4092)");
+    assert_eq!(out[56..60], [4, 0, 4, 0], "the scene's (4,4092)");
     let untiled = untiled_sized(&set, sound);
     assert_eq!(untiled[0][..4], 4092.5f32.to_le_bytes());
-    assert_eq!(untiled[0][46..48], 4093u16.to_le_bytes());
+    assert_eq!(untiled[0][54..56], 4093u16.to_le_bytes());
+    let moved = [0.499_99f32, 0.0].map(f32::to_le_bytes).concat();
+    assert_eq!((&out[44..52], &untiled[0][40..48]), (&moved[..], &moved[..]));
 }

@@ -2,29 +2,38 @@
 
 use crate::Rules;
 use crate::counting;
-use crate::shims::extraction::ScaleSpaceKeypoint;
 use crate::here::here;
+use crate::moves;
 use crate::record::{self, Spot, all_finite};
+use crate::shims::extraction::ScaleSpaceKeypoint;
 
-/// Whether the spot is listed: its floats finite, the join accepts it, and the samples of its pixel and the eight neighbours finite.
+/// Whether the spot is listed: its floats finite, the join accepts it, and the samples of its pixel and the eight neighbours finite. Where it is, its
+/// displacement is noted.
 pub fn admits(
-    rows: usize,
-    cols: usize,
+    (rows, cols): (usize, usize),
     key: usize,
-    geometry: &ScaleSpaceKeypoint,
+    geometry: &mut ScaleSpaceKeypoint,
+    moved: [f32; 2],
     center: &[f32; 4],
     samples_at: impl Fn(usize) -> [f32; 4],
 ) -> bool {
-    if here().rules == Rules::Published {
-        return true;
+    let laid = || {
+        record::laid(&Spot {
+            geometry: *geometry,
+            moved: Some(moved),
+            samples: *center,
+            key,
+        })
+    };
+    let sound = |laid: &[u8]| {
+        all_finite(&record::floats(laid))
+            && record::readable(rows, cols, laid)
+            && (0..9).all(|index| all_finite(&samples_at(index)))
+    };
+    let listed = here().rules == Rules::Published
+        || counting::let_pass(counting::EXTRA, sound(&laid()));
+    if listed {
+        moves::note(geometry, moved);
     }
-    let laid = record::laid(&Spot {
-        geometry: *geometry,
-        samples: *center,
-        key,
-    });
-    let sound = all_finite(&record::floats(&laid))
-        && record::readable(rows, cols, &laid)
-        && (0..9).all(|index| all_finite(&samples_at(index)));
-    counting::let_pass(counting::EXTRA, sound)
+    listed
 }

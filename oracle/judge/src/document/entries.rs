@@ -2,7 +2,7 @@
 
 use crate::causes;
 use crate::here::with;
-use crate::record::{self, SIZED, SPOT, Spot};
+use crate::record::{self, OLD_SIZED, OLD_SPOT, SIZED, SPOT, Spot};
 use crate::run::offered;
 use crate::{Answer, Logs, Map, NoSize, Pass, Rules, Set, Thresholds, counting};
 
@@ -57,6 +57,14 @@ pub fn write_spots(spots: &[Spot], out: &mut [u8]) -> Answer {
     Answer::Done(spots.len())
 }
 
+/// The same with former records.
+pub fn write_old_spots(spots: &[Spot], out: &mut [u8]) -> Answer {
+    for (bytes, spot) in out.chunks_exact_mut(OLD_SPOT).zip(spots) {
+        bytes.copy_from_slice(&record::old_laid(spot));
+    }
+    Answer::Done(spots.len())
+}
+
 /// Detection by one of the passes; the reference's rejections are counted.
 pub fn detect(rules: Rules, pass: Pass, set: &Set, map: Map, out: &mut [u8]) -> Answer {
     if let Some(number) = detection_refusal(set.good(), map) {
@@ -70,28 +78,53 @@ pub fn detect(rules: Rules, pass: Pass, set: &Set, map: Map, out: &mut [u8]) -> 
     write_spots(&spots, out)
 }
 
-/// The join's refusals, the first that applies: 1, 4, 5 with an index, 6.
-fn join_refusal(set: &Set, rows: usize, cols: usize, list: &[u8], out: &[u8]) -> Option<Answer> {
-    let whole = list.len() / SPOT;
+/// A list as a join reads it: its records' bytes, those of their sized records, and when a record is readable.
+struct Form {
+    spot: usize,
+    sized: usize,
+    readable: fn(usize, usize, &[u8]) -> bool,
+}
+
+const PRESENT: Form = Form {
+    spot: SPOT,
+    sized: SIZED,
+    readable: record::readable,
+};
+
+const FORMER: Form = Form {
+    spot: OLD_SPOT,
+    sized: OLD_SIZED,
+    readable: record::old_readable,
+};
+
+/// A join's refusals, the first that applies: 1, 4, 5 with an index, 6.
+fn join_refusal(
+    form: &Form,
+    set: &Set,
+    (rows, cols): (usize, usize),
+    list: &[u8],
+    out: &[u8],
+) -> Option<Answer> {
+    let whole = list.len() / form.spot;
     if rows > LONGEST || cols > LONGEST {
         return Some(refused(1));
     }
     if !set.good() {
         return Some(refused(4));
     }
-    if !list.len().is_multiple_of(SPOT) {
+    if !list.len().is_multiple_of(form.spot) {
         return Some(Answer::Refused {
             number: 5,
             index: whole,
         });
     }
     let bad = list
-        .chunks_exact(SPOT)
-        .position(|bytes| !record::readable(rows, cols, bytes));
+        .chunks_exact(form.spot)
+        .position(|bytes| !(form.readable)(rows, cols, bytes));
     if let Some(index) = bad {
         return Some(Answer::Refused { number: 5, index });
     }
-    (out.len() < whole * SIZED).then_some(refused(6))
+    (out.len() < whole * form.sized).then_some(refused(6))
 }
 
 /// The whole number nearest to a place on the map, a half to the larger. Below 1 the f64 sum may be rounded, but never up to 1.
@@ -99,21 +132,46 @@ fn nearest(place: f32) -> u16 {
     (f64::from(place) + 0.5).floor() as u16
 }
 
-/// The spot record, its corrected sigma, its home pixel, whether a size was given, and why none was.
-pub fn sized(spot: &[u8]) -> [u8; SIZED] {
+/// What a sized record has behind its spot record, of whichever form: its corrected sigma, its home pixel, whether a size was given, and why none was.
+fn size_and_home(spot: &[u8]) -> [u8; 12] {
     let [x, y, sigma, _, samples @ ..] = record::floats(spot);
     let size = causes::size(|| offered::correct(&samples, sigma, record::is_max(spot)));
-    let mut bytes = [0; SIZED];
-    bytes[..SPOT].copy_from_slice(spot);
-    bytes[SPOT..SPOT + 4].copy_from_slice(&size.unwrap_or(0.0).to_le_bytes());
-    bytes[44..46].copy_from_slice(&nearest(y).to_le_bytes());
-    bytes[46..48].copy_from_slice(&nearest(x).to_le_bytes());
-    bytes[48] = size.is_ok() as u8;
-    bytes[49] = size.err().unwrap_or(0);
+    let mut bytes = [0; 12];
+    bytes[..4].copy_from_slice(&size.unwrap_or(0.0).to_le_bytes());
+    bytes[4..6].copy_from_slice(&nearest(y).to_le_bytes());
+    bytes[6..8].copy_from_slice(&nearest(x).to_le_bytes());
+    bytes[8] = size.is_ok() as u8;
+    bytes[9] = size.err().unwrap_or(0);
     bytes
 }
 
-/// The join: each record of the list with its size.
+/// The spot record, then its size and home.
+pub fn sized(spot: &[u8]) -> Vec<u8> {
+    [spot, &size_and_home(spot)].concat()
+}
+
+/// A join: each record of the list with its size.
+fn joined(
+    form: &Form,
+    logs: Logs,
+    set: &Set,
+    (rows, cols): (usize, usize),
+    list: &[u8],
+    out: &mut [u8],
+) -> Answer {
+    if let Some(refusal) = join_refusal(form, set, (rows, cols), list, out) {
+        return refusal;
+    }
+    with(Rules::Document, logs, set, || {
+        let records = list.chunks_exact(form.spot);
+        for (bytes, spot) in out.chunks_exact_mut(form.sized).zip(records) {
+            bytes.copy_from_slice(&sized(spot));
+        }
+    });
+    Answer::Done(list.len() / form.spot)
+}
+
+/// The join of a list.
 pub fn join(
     logs: Logs,
     set: &Set,
@@ -122,15 +180,19 @@ pub fn join(
     list: &[u8],
     out: &mut [u8],
 ) -> Answer {
-    if let Some(refusal) = join_refusal(set, rows, cols, list, out) {
-        return refusal;
-    }
-    with(Rules::Document, logs, set, || {
-        for (bytes, spot) in out.chunks_exact_mut(SIZED).zip(list.chunks_exact(SPOT)) {
-            bytes.copy_from_slice(&sized(spot));
-        }
-    });
-    Answer::Done(list.len() / SPOT)
+    joined(&PRESENT, logs, set, (rows, cols), list, out)
+}
+
+/// The join of an old list, of records without a displacement.
+pub fn join_old(
+    logs: Logs,
+    set: &Set,
+    rows: usize,
+    cols: usize,
+    list: &[u8],
+    out: &mut [u8],
+) -> Answer {
+    joined(&FORMER, logs, set, (rows, cols), list, out)
 }
 
 /// The correction: 4 for a set that is not good, 7 with its cause where there is no size.

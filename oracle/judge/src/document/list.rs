@@ -5,7 +5,7 @@ use crate::record::SPOT;
 use crate::{Answer, Map, Pass, Rules, Set, Thresholds};
 
 const HEADER: usize = 528 + 4 * 8;
-const PRINTED: usize = 1600;
+const PRINTED: usize = 1300;
 
 /// What a whole input says.
 struct Tile {

@@ -145,7 +145,7 @@ pub fn untiled(set: &Set, map: Map, cut: Option<Cut>) -> Vec<Found> {
 }
 
 /// The untiled spots with their sizes.
-pub fn untiled_sized(set: &Set, map: Map) -> Vec<[u8; SIZED]> {
+pub fn untiled_sized(set: &Set, map: Map) -> Vec<Vec<u8>> {
     let spots = untiled(set, map, None);
     let size = |spot: &Found| sized(&spot.record);
     with(Rules::Document, Logs::Steps, set, || {
@@ -198,7 +198,7 @@ fn records(set: &Set, tile: &Tile, spots: &[Found]) -> Vec<u8> {
     }
     list.sort_by_key(|record| (key(record), is_max(record)));
     let [row, col] = [tile.row, tile.col].map(|number| (number as u16).to_le_bytes());
-    let numbered = |sized: [u8; SIZED]| [&row[..], &col, &sized].concat();
+    let numbered = |sized: Vec<u8>| [&row[..], &col, &sized].concat();
     with(Rules::Document, Logs::Steps, set, || {
         list.iter()
             .flat_map(|record| numbered(sized(record)))
