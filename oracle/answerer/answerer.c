@@ -118,12 +118,15 @@ static void detect(void) {
     free(out.bytes);
 }
 
-static void join(void) {
+/* One of the two joins. */
+typedef uint32_t Join(const uint8_t *, size_t, size_t, size_t, const uint8_t *, size_t, uint8_t *, size_t, uint64_t *);
+
+static void join(Join *joined) {
     Bytes set = bytes();
     size_t rows = number(), cols = number();
     Bytes list = bytes(), out = bytes();
     uint64_t value = 0;
-    answer(uramsheg_join(set.bytes, set.length, rows, cols, list.bytes, list.length, out.bytes, out.length, &value));
+    answer(joined(set.bytes, set.length, rows, cols, list.bytes, list.length, out.bytes, out.length, &value));
     answer(value);
     give(out.bytes, out.length);
     free(set.bytes);
@@ -250,7 +253,8 @@ int main(void) {
     while ((letter = getchar()) != EOF) {
         switch (letter) {
         case 'd': detect(); break;
-        case 'j': join(); break;
+        case 'j': join(uramsheg_join); break;
+        case 'k': join(uramsheg_join_old); break;
         case 'c': correct(); break;
         case 'o': octave_count(); break;
         case 'h': downsample(); break;

@@ -60,8 +60,9 @@ pub enum Case {
     List { input: Vec<u8> },
     /// Detection into `room` bytes, each filled with `fill` first.
     Detect { scene: Scene, room: usize, fill: u8 },
-    /// The join of a list into `room` bytes.
+    /// The join of a list into `room` bytes, or of an old list by the entry of its own.
     Join {
+        old: bool,
         set: Set,
         rows: usize,
         cols: usize,
@@ -71,6 +72,8 @@ pub enum Case {
     },
     /// Detection, then the join of what it listed.
     Sized { scene: Scene },
+    /// Detection, then the old lists' join of what it listed, each record cut to its first 40 bytes.
+    OldSized { scene: Scene },
     /// One correction.
     Correct {
         set: Set,

@@ -2,15 +2,17 @@
 
 use crate::case::{Case, Scene};
 use crate::causes;
+use crate::deltas;
 use crate::feeds;
 use crate::homes;
 use crate::levels;
 use crate::limits;
 use crate::maps;
 use crate::mirrored;
+use crate::old;
 use crate::overshoot;
 use crate::random::{Random, power};
-use crate::records::{self, SIZED, SPOT};
+use crate::records::{self, Form, PRESENT, SPOT};
 use crate::rounding;
 use crate::scenes;
 use crate::sets::{self, Set};
@@ -18,7 +20,7 @@ use crate::turning;
 use crate::words::{self, FUNCTIONS};
 
 /// The families of cases. `inner` counts through the inner functions.
-pub const FAMILIES: [&str; 32] = [
+pub const FAMILIES: [&str; 34] = [
     "list",
     "detect",
     "join",
@@ -51,6 +53,8 @@ pub const FAMILIES: [&str; 32] = [
     "starts",
     "forged",
     "scenes",
+    "deltas",
+    "old",
 ];
 
 /// The case of a family with the given seed and number.
@@ -61,7 +65,7 @@ pub fn expand(family: &str, seed: u64, number: usize) -> Case {
     match family {
         "list" => list(random, number),
         "detect" => detect(random, number),
-        "join" => join(random, number),
+        "join" => join(random, number, PRESENT),
         "sized" => Case::Sized {
             scene: lively(random),
         },
@@ -77,7 +81,7 @@ pub fn expand(family: &str, seed: u64, number: usize) -> Case {
         "widest" => scenes::widest(random),
         "blanks" => limits::blank(random, number),
         "limits" => limits::odd(random, number),
-        "homes" => homes::join(random, number),
+        "homes" => homes::join(random, number, PRESENT),
         "levels" => levels::made(random, number),
         "kernels" => levels::kernel(random, number),
         "blurs" => levels::blur(random, number),
@@ -92,7 +96,9 @@ pub fn expand(family: &str, seed: u64, number: usize) -> Case {
         "mirrored" => mirrored::correction(random),
         "cancelling" => rounding::cancelling(random),
         "inflected" => rounding::inflected(random),
-        "records" => damaged_records(random),
+        "records" => damaged_records(random, PRESENT),
+        "deltas" => deltas::join(random, number),
+        "old" => old::join(random, number),
         "floats" => {
             let (function, words) = words::many(random, number);
             Case::Inner {
@@ -257,6 +263,19 @@ pub(crate) fn full_of(random: &mut Random, rows: usize, cols: usize) -> Scene {
     }
 }
 
+/// About as many spots as the list program prints: 1,299, 1,300 and 1,301 of them, and three more counts, by the number.
+fn full_to_the_limit(random: &mut Random, number: usize) -> Scene {
+    let sides = [(33, 60), (58, 34), (50, 39), (44, 44)];
+    let (rows, cols) = sides[number % sides.len()];
+    let mut scene = full_of(random, rows, cols);
+    scene.thresholds[0] = -1.0;
+    // Row 2, col 3 is near no judged pixel but the first.
+    if number / sides.len() % 2 == 0 {
+        scene.levels[random.below(4)][3 * rows + 2] = f32::NAN;
+    }
+    scene
+}
+
 /// The same on sides that the list program takes.
 fn full(random: &mut Random) -> Scene {
     let (rows, cols) = random.pick(&[(60, 60), (60, 60), (48, 49), (9, 60), (30, 20)]);
@@ -276,8 +295,12 @@ fn list(random: &mut Random, number: usize) -> Case {
         };
     }
     if number % 40 == 39 {
+        let scene = match number / 40 % 3 {
+            2 => full_to_the_limit(random, number / 120),
+            _ => full(random),
+        };
         return Case::List {
-            input: full(random).input(),
+            input: scene.input(),
         };
     }
     let mut scene = scene(random);
@@ -391,7 +414,8 @@ pub(crate) fn damage(random: &mut Random, scene: &mut Scene, faults: [bool; 4]) 
     }
 }
 
-fn join(random: &mut Random, number: usize) -> Case {
+/// The join of a list of a form, its faults by the number.
+pub(crate) fn join(random: &mut Random, number: usize, form: Form) -> Case {
     let [size, bad_set, records, room] = faults(number);
     let (mut rows, mut cols) = (random.from_to(1, 60), random.from_to(1, 60));
     if random.once_in(6) {
@@ -412,7 +436,7 @@ fn join(random: &mut Random, number: usize) -> Case {
     } else {
         sets::any(random)
     };
-    let list = records::list(random, &set.sigmas, rows, cols, records);
+    let list = records::list(random, &set.sigmas, (rows, cols), form, records);
     if size {
         let side = random.pick(&[4097, 65536, usize::MAX]);
         (rows, cols) = random.pick(&[(side, cols), (rows, side), (side, side)]);
@@ -420,35 +444,21 @@ fn join(random: &mut Random, number: usize) -> Case {
     if bad_set {
         set = sets::damaged(random);
     }
-    let needed = list.len() / SPOT * SIZED;
+    let (needed, sized) = (form.needed(&list), form.sized);
     let given = match room {
-        true => needed.saturating_sub(random.pick(&[1, 1, SIZED - 1, SIZED, SIZED + 1])),
-        false => needed + random.pick(&[0, 0, 1, SIZED / 4, SIZED, SIZED + 8]),
+        true => needed.saturating_sub(random.pick(&[1, 1, sized - 1, sized, sized + 1])),
+        false => needed + random.pick(&[0, 0, 1, sized / 4, sized, sized + 8]),
     };
-    Case::Join {
-        set,
-        rows,
-        cols,
-        list,
-        room: given,
-        fill: random.word() as u8,
-    }
+    form.join(set, (rows, cols), list, given, random.word() as u8)
 }
 
-/// A join of a list with a damaged record.
-fn damaged_records(random: &mut Random) -> Case {
+/// A join of a list of a form with a damaged record.
+pub(crate) fn damaged_records(random: &mut Random, form: Form) -> Case {
     let (rows, cols) = random.pick(&[(9, 10), (60, 60), (1, 1), (4096, 4096), (30, 7), (1, 4096)]);
     let set = sets::real(random);
-    let list = records::damaged(random, &set.sigmas, rows, cols);
-    let room = list.len() / SPOT * SIZED;
-    Case::Join {
-        set,
-        rows,
-        cols,
-        list,
-        room,
-        fill: 0x77,
-    }
+    let list = records::damaged(random, &set.sigmas, (rows, cols), form);
+    let room = form.needed(&list);
+    form.join(set, (rows, cols), list, room, 0x77)
 }
 
 /// A map in which every judged pixel is a spot at sigma 0, its curvature near or above the largest float.

@@ -97,7 +97,7 @@ fn rooms(random: &mut Random, rows: usize, creeping: bool) -> Vec<usize> {
         all.extend(counts.flat_map(|count| [SPOT * count - 1, SPOT * count]));
         return all;
     }
-    let enough = most + random.pick(&[0, 0, 1, 39, 40]);
+    let enough = most + random.pick(&[0, 0, 1, SPOT - 1, SPOT]);
     match random.below(3) {
         0 => vec![enough],
         1 => vec![random.pick(&[0, SPOT - 1, SPOT, SPOT + 1]), enough],

@@ -2,7 +2,7 @@
 
 use crate::case::Case;
 use crate::random::Random;
-use crate::records::{self, SIZED, SPOT};
+use crate::records::{self, Form};
 use crate::sets;
 
 /// The halves of the longest side that one case of the walk takes.
@@ -16,9 +16,9 @@ pub const KINDS: usize = 14;
 const BELOW_A_HALF: f32 = f32::from_bits(0x3eff_ffff);
 
 /// The walk by the number; after it each kind of x with each kind of y, on sides of many lengths.
-pub fn join(random: &mut Random, number: usize) -> Case {
+pub fn join(random: &mut Random, number: usize, form: Form) -> Case {
     if number < WALK {
-        return walk(random, number);
+        return walk(random, number, form);
     }
     let (kind, other) = (number % KINDS, number / KINDS % KINDS);
     let sides = [
@@ -36,11 +36,11 @@ pub fn join(random: &mut Random, number: usize) -> Case {
     for _ in 0..random.from_to(1, 3) {
         places.push((place(random, kind, cols), place(random, other, rows)));
     }
-    joined(random, rows, cols, &places)
+    joined(random, (rows, cols), &places, form)
 }
 
 /// Sixteen halves and the floats beside each, as x with y at or beside another half.
-fn walk(random: &mut Random, number: usize) -> Case {
+fn walk(random: &mut Random, number: usize, form: Form) -> Case {
     let mut places = Vec::new();
     for n in STEP * number..(STEP * (number + 1)).min(4095) {
         let (x, y) = (n as f32 + 0.5, (4094 - n) as f32 + 0.5);
@@ -50,7 +50,7 @@ fn walk(random: &mut Random, number: usize) -> Case {
             (x.next_up(), y),
         ]);
     }
-    joined(random, 4096, 4096, &places)
+    joined(random, (4096, 4096), &places, form)
 }
 
 /// A place of a kind on a side, at most its last pixel.
@@ -89,19 +89,19 @@ fn own(random: &mut Random, place: f32, side: usize) -> usize {
 }
 
 /// The join of records at these places, into just enough room.
-fn joined(random: &mut Random, rows: usize, cols: usize, places: &[(f32, f32)]) -> Case {
+fn joined(
+    random: &mut Random,
+    (rows, cols): (usize, usize),
+    places: &[(f32, f32)],
+    form: Form,
+) -> Case {
     let set = sets::real(random);
     let mut list = Vec::new();
     for &(x, y) in places {
         let key = own(random, y, rows) * cols + own(random, x, cols);
-        list.extend_from_slice(&records::at(random, &set.sigmas, key, x, y));
+        let record = records::at(random, &set.sigmas, key, x, y);
+        list.extend_from_slice(&record[..form.spot]);
     }
-    Case::Join {
-        set,
-        rows,
-        cols,
-        room: list.len() / SPOT * SIZED,
-        list,
-        fill: 0x77,
-    }
+    let room = form.needed(&list);
+    form.join(set, (rows, cols), list, room, 0x77)
 }

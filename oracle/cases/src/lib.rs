@@ -2,6 +2,7 @@
 
 pub mod case;
 pub mod causes;
+pub mod deltas;
 pub mod edges;
 pub mod families;
 pub mod feeds;
@@ -11,6 +12,7 @@ mod limits;
 pub mod maps;
 mod mirrored;
 pub mod odd;
+pub mod old;
 mod overshoot;
 pub mod random;
 pub mod records;

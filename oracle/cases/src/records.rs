@@ -1,13 +1,75 @@
 //! Lists of spot records for the join: sound ones, and each field damaged.
 
+use crate::case::Case;
 use crate::random::Random;
+use crate::sets::Set;
 
 /// The bytes of a spot record.
-pub const SPOT: usize = 40;
+pub const SPOT: usize = 48;
 /// The bytes of a sized record.
-pub const SIZED: usize = 52;
+pub const SIZED: usize = 60;
+/// The bytes of an old spot record, which are a spot record's first.
+pub const OLD_SPOT: usize = 40;
+/// The bytes of an old sized record.
+pub const OLD_SIZED: usize = 52;
+/// Where a record has delta x; delta y follows.
+pub const MOVED: usize = 40;
 
-/// The bytes of one record from its eight floats, key and four small fields.
+/// A list's form: the bytes of a record and of a sized one.
+#[derive(Clone, Copy, Debug, PartialEq, Eq)]
+pub struct Form {
+    pub spot: usize,
+    pub sized: usize,
+}
+
+/// The form of the lists that detection writes.
+pub const PRESENT: Form = Form {
+    spot: SPOT,
+    sized: SIZED,
+};
+/// The form of old lists.
+pub const OLD: Form = Form {
+    spot: OLD_SPOT,
+    sized: OLD_SIZED,
+};
+
+impl Form {
+    /// The join of a list of this form into `room` bytes.
+    pub fn join(
+        self,
+        set: Set,
+        (rows, cols): (usize, usize),
+        list: Vec<u8>,
+        room: usize,
+        fill: u8,
+    ) -> Case {
+        Case::Join {
+            old: self == OLD,
+            set,
+            rows,
+            cols,
+            list,
+            room,
+            fill,
+        }
+    }
+
+    /// The room that a list needs.
+    pub fn needed(self, list: &[u8]) -> usize {
+        list.len() / self.spot * self.sized
+    }
+}
+
+/// The old list of a list; a part of a record at its end stays one.
+pub fn cut(list: &[u8]) -> Vec<u8> {
+    let part = |record: &[u8]| match record.len() {
+        SPOT => record[..OLD_SPOT].to_vec(),
+        length => record[..length.min(OLD_SPOT - 1)].to_vec(),
+    };
+    list.chunks(SPOT).flat_map(part).collect()
+}
+
+/// The bytes of one record from its eight floats, key and four small fields; its displacement is made of these alone.
 pub fn bytes(floats: [f32; 8], key: u32, small: [u8; 4]) -> [u8; SPOT] {
     let mut record = [0u8; SPOT];
     for (place, value) in floats.iter().enumerate() {
@@ -15,11 +77,34 @@ pub fn bytes(floats: [f32; 8], key: u32, small: [u8; 4]) -> [u8; SPOT] {
     }
     record[32..36].copy_from_slice(&key.to_le_bytes());
     record[36..40].copy_from_slice(&small);
+    let parts = record[..MOVED].chunks_exact(8);
+    let parts = parts.map(|part| u64::from_le_bytes(core::array::from_fn(|k| part[k])));
+    let sum = parts.fold(0, |sum: u64, part| sum.rotate_left(7) ^ part);
+    let random = &mut Random::new(sum, SOURCE, 0);
+    put_moved(&mut record, [near(random), near(random)]);
     record
 }
 
+/// Apart from the families' own sources.
+const SOURCE: u64 = 1 << 36;
+
+/// A displacement that a record may have.
+fn near(random: &mut Random) -> f32 {
+    let any = random.between(-0.6, 0.6);
+    random.pick(&[
+        any, any, any, any, 0.0, -0.0, 0.5, -0.5, 0.6, -0.6, 1e-45, -1e-39,
+    ])
+}
+
+/// Puts a displacement into a record.
+pub fn put_moved(record: &mut [u8], moved: [f32; 2]) {
+    for (bytes, delta) in record[MOVED..SPOT].chunks_exact_mut(4).zip(moved) {
+        bytes.copy_from_slice(&delta.to_le_bytes());
+    }
+}
+
 /// A record that the join accepts, wherever rows and cols are above 0; `sigmas` guide its sigma.
-fn sound(random: &mut Random, sigmas: &[f32; 4], rows: usize, cols: usize) -> [u8; SPOT] {
+pub fn sound(random: &mut Random, sigmas: &[f32; 4], rows: usize, cols: usize) -> [u8; SPOT] {
     let key = random.below((rows * cols).max(1));
     let place = |random: &mut Random, home: usize, side: usize| {
         let last = side.max(1) as f32 - 1.0;
@@ -79,8 +164,8 @@ pub fn samples(random: &mut Random) -> [f32; 4] {
     }
 }
 
-/// Spoils one field of one record so that the join refuses it.
-fn spoil(random: &mut Random, rows: usize, cols: usize, record: &mut [u8]) {
+/// Spoils one field of one record, other than its displacement, so that both joins refuse it.
+pub fn spoil(random: &mut Random, rows: usize, cols: usize, record: &mut [u8]) {
     let mut put = |place: usize, value: f32| {
         record[4 * place..4 * place + 4].copy_from_slice(&value.to_le_bytes());
     };
@@ -112,18 +197,23 @@ fn spoil(random: &mut Random, rows: usize, cols: usize, record: &mut [u8]) {
 }
 
 /// A list with one damaged record, every record before it sound.
-pub fn damaged(random: &mut Random, sigmas: &[f32; 4], rows: usize, cols: usize) -> Vec<u8> {
+pub fn damaged(
+    random: &mut Random,
+    sigmas: &[f32; 4],
+    (rows, cols): (usize, usize),
+    form: Form,
+) -> Vec<u8> {
     let mut list = Vec::new();
     for _ in 0..random.from_to(1, 4) {
-        list.extend_from_slice(&sound(random, sigmas, rows, cols));
+        list.extend_from_slice(&sound(random, sigmas, rows, cols)[..form.spot]);
     }
-    let at = list.len() - SPOT;
+    let at = list.len() - form.spot;
     spoil(random, rows, cols, &mut list[at..]);
     if random.once_in(2) {
-        list.extend_from_slice(&sound(random, sigmas, rows, cols));
+        list.extend_from_slice(&sound(random, sigmas, rows, cols)[..form.spot]);
     }
     if random.once_in(8) {
-        let length = list.len() - random.from_to(1, SPOT - 1);
+        let length = list.len() - random.from_to(1, form.spot - 1);
         list.truncate(length);
     }
     list
@@ -133,8 +223,8 @@ pub fn damaged(random: &mut Random, sigmas: &[f32; 4], rows: usize, cols: usize)
 pub fn list(
     random: &mut Random,
     sigmas: &[f32; 4],
-    rows: usize,
-    cols: usize,
+    (rows, cols): (usize, usize),
+    form: Form,
     bad: bool,
 ) -> Vec<u8> {
     let count = random
@@ -142,16 +232,16 @@ pub fn list(
         .max(usize::from(bad));
     let mut list = Vec::new();
     for _ in 0..count {
-        list.extend_from_slice(&sound(random, sigmas, rows, cols));
+        list.extend_from_slice(&sound(random, sigmas, rows, cols)[..form.spot]);
     }
     if bad {
         let spoilt = random.pick(&[1, 1, 2]);
         for _ in 0..spoilt {
-            let at = random.below(count) * SPOT;
-            spoil(random, rows, cols, &mut list[at..at + SPOT]);
+            let at = random.below(count) * form.spot;
+            spoil(random, rows, cols, &mut list[at..at + form.spot]);
         }
         if random.once_in(3) {
-            let length = list.len() - random.from_to(1, SPOT - 1);
+            let length = list.len() - random.from_to(1, form.spot - 1);
             list.truncate(length);
         }
     }

@@ -13,9 +13,9 @@ pub const LONGEST: usize = 16_384;
 pub const STEP: usize = 4088;
 pub const TILE: usize = 4096;
 /// The bytes of a record.
-pub const RECORD: usize = 56;
+pub const RECORD: usize = 64;
 /// The spots of a tile up to which it is detected once.
-pub const ONCE: usize = 3276;
+pub const ONCE: usize = 2730;
 
 /// Sides from 0 on, each with each.
 const TINY: usize = 13;
@@ -155,7 +155,7 @@ fn rooms(random: &mut Random, most: usize, creeping: bool) -> Vec<usize> {
         let each = (1..=most).flat_map(|count| [RECORD * count - 1, RECORD * count]);
         return core::iter::once(0).chain(each).collect();
     }
-    let enough = RECORD * most + random.pick(&[0, 0, 1, 55, 56]);
+    let enough = RECORD * most + random.pick(&[0, 0, 1, RECORD - 1, RECORD]);
     let few = RECORD * random.from_to(1, most.max(1));
     match random.below(4) {
         0 => vec![enough],

@@ -66,6 +66,9 @@ pub fn raw_of(raw: &Raw) -> RawMap<'_> {
     }
 }
 
+/// The most records that the list program prints.
+const PRINTED: usize = 1300;
+
 impl Judge {
     /// A scene's list as the list program prints it.
     fn printed(&mut self, scene: &Scene) -> Vec<u8> {
@@ -78,7 +81,7 @@ impl Judge {
                         .map(|byte| format!("{byte:02x}"))
                         .collect::<String>()
                 };
-                let records = out[..SPOT * count].chunks_exact(SPOT).take(1600);
+                let records = out[..SPOT * count].chunks_exact(SPOT).take(PRINTED);
                 let lines: String = records.map(|record| hex(record) + "\n").collect();
                 format!("{lines}found {count}\n").into_bytes()
             }
@@ -170,6 +173,19 @@ impl Subject for Judge {
             list,
             out,
         )))
+    }
+
+    fn join_old(
+        &mut self,
+        set: &Set,
+        rows: usize,
+        cols: usize,
+        list: &[u8],
+        out: &mut [u8],
+    ) -> Option<Reply> {
+        let set = set_of(set);
+        let answer = judge::join_old(self.logs, &set, rows, cols, list, out);
+        Some(reply_of(answer))
     }
 
     fn correct(

@@ -9,6 +9,7 @@ mod forged;
 mod judged;
 #[cfg(feature = "archive")]
 mod lanes;
+mod moved;
 mod own;
 mod plan;
 #[cfg(feature = "probe")]
@@ -134,6 +135,7 @@ fn own(seed: u64, times: usize) -> bool {
         &mut Judge::sound(),
     );
     sound &= own::untiled(seed, times);
+    sound &= moved::old_lists(seed, times);
     sound &= tiles::run(
         "small-tiles-list-what-the-scene-lists",
         seed,

@@ -1,9 +1,10 @@
 //! The comparisons that need no subject: the judge's passes, builds and rules among themselves.
 
 use crate::judged::{Judge, from_judge, map_of, raw_of, read_back, set_of};
+use crate::moved;
 use crate::plan;
 use cases::random::Random;
-use cases::records::SPOT;
+use cases::records::{OLD_SPOT, SPOT, cut};
 use cases::{Case, Scene, edges, sets};
 use judge::{Logs, Pass, Rules, inner, levels};
 use subject::{Reply, Subject, difference, made_of};
@@ -73,8 +74,9 @@ pub fn untiled(seed: u64, times: usize) -> bool {
     )
 }
 
-/// The streaming pass against the reference, and the published rules against document 01's, on every map.
+/// The streaming pass against the reference, and the published rules against document 01's, on every map; and each listed record's displacement.
 pub fn passes(seed: u64, times: usize) -> bool {
+    let mut moved = moved::Seen::default();
     let (mut maps, mut other_rules) = (0, 0);
     let (mut fault, mut first_rule) = (None, None);
     let [published, published_stream] = [Judge::sound(), Judge::streaming()].map(|pass| Judge {
@@ -89,6 +91,9 @@ pub fn passes(seed: u64, times: usize) -> bool {
             maps += 1;
             let label = format!("{family} {seed} {}", one.number);
             let sound = whole(Judge::sound(), &scene);
+            if matches!(sound.0, Some(Reply::Done(_))) {
+                moved.look(&label, &scene, &sound.1);
+            }
             let stream = whole(Judge::streaming(), &scene);
             if sound != stream && fault.is_none() {
                 fault = Some(format!("{label}: {}", difference(&sound.1, &stream.1)));
@@ -110,11 +115,8 @@ pub fn passes(seed: u64, times: usize) -> bool {
     if let Some(first) = first_rule {
         println!("the first: {first}");
     }
-    told(
-        "streaming-pass-equals-reference",
-        fault,
-        &format!("{maps} maps"),
-    )
+    let seen = format!("{maps} maps");
+    told("streaming-pass-equals-reference", fault, &seen) & moved.tell()
 }
 
 /// The envelope of the streaming pass against the reference's extrema, on four samples.
@@ -148,7 +150,7 @@ pub fn envelopes(seed: u64, times: usize) -> bool {
     told("two-envelopes-agree", fault, &format!("{count} samples"))
 }
 
-/// The build of real constants against the build with a set read at run time.
+/// The build of real constants, which tells no displacement, against the build with a set read at run time, each record cut to its first 40 bytes.
 pub fn builds(seed: u64, times: usize) -> bool {
     let mut maps = 0;
     let mut fault = None;
@@ -158,10 +160,11 @@ pub fn builds(seed: u64, times: usize) -> bool {
             let random = &mut Random::new(seed, 301 + index as u64, number as u64);
             let scene = fixed_scene(random, &set);
             let (pass, map) = (Pass::Reference, map_of(&scene));
-            let mut out = vec![0u8; 2 * SPOT * scene.rows * scene.cols];
-            let mut again = out.clone();
+            let most = 2 * scene.rows * scene.cols;
+            let (mut out, mut again) = (vec![0; OLD_SPOT * most], vec![0; SPOT * most]);
             let answer = judge::fixed::detect(index, pass, map, &mut out);
             let same = judge::detect(Rules::Published, pass, &set, map, &mut again);
+            let again = cut(&again);
             maps += 1;
             if (answer, &out) != (same, &again) {
                 fault.get_or_insert_with(|| {

@@ -5,12 +5,12 @@ use crate::search;
 use cases::homes::{KINDS, WALK};
 use cases::levels::PAIRS;
 use cases::scenes::ROUND;
-use cases::{Case, Knob, expand, turn};
+use cases::{Case, Knob, deltas, expand, turn};
 use subject::answer;
 use subject::stored::{Entry, Kept, Section};
 
 /// Cases of a family in a bounded run and in the stored list.
-pub const COUNTS: [(&str, usize); 31] = [
+pub const COUNTS: [(&str, usize); 33] = [
     ("list", 3000),
     ("detect", 1800),
     ("join", 1200),
@@ -42,6 +42,8 @@ pub const COUNTS: [(&str, usize); 31] = [
     ("starts", 32 * 6 * 5),
     ("forged", 3600),
     ("scenes", ROUND),
+    ("deltas", 16 * deltas::ROUND),
+    ("old", 1600),
 ];
 
 /// Searches one case's edges: its seed, its number, and how often to try.

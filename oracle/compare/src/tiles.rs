@@ -12,7 +12,7 @@ use judge::Map;
 use judge::scene::{Cut, untiled_sized};
 use subject::{Fed, Subject, Tiling, answer, difference};
 
-/// What tiles leave as it is: a spot's pixel of the scene, and of its sized record all but x, y, key and home.
+/// What tiles leave as it is: a spot's pixel of the scene, and of its sized record all but x, y, key and home, its displacement too.
 type Spot = (usize, usize, Vec<u8>);
 
 fn word(bytes: &[u8], at: usize) -> usize {
@@ -26,7 +26,7 @@ fn half(bytes: &[u8], at: usize) -> usize {
 /// A sized record's spot, its key one of a map with these cols that begins at this pixel.
 fn spot(sized: &[u8], cols: usize, (row, col): (usize, usize)) -> Spot {
     let key = word(sized, 32);
-    let same = [&sized[8..32], &sized[36..44], &sized[48..]].concat();
+    let same = [&sized[8..32], &sized[36..52], &sized[56..]].concat();
     (row + key / cols, col + key % cols, same)
 }
 

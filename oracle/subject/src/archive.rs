@@ -19,7 +19,30 @@ pub struct Archive {
     slices: [Room; 4],
 }
 
+/// One of the wrapper's two joins.
+type Join = fn(&[u8], usize, usize, &[u8], &mut [u8]) -> Result<usize, Refusal>;
+
 impl Archive {
+    /// A join on copies beside the page, on either side of it.
+    fn joined(
+        &mut self,
+        join: Join,
+        set: &Set,
+        (rows, cols): (usize, usize),
+        list: &[u8],
+        out: &mut [u8],
+    ) -> Reply {
+        let record = set.record();
+        both_sides(out, |side, left| {
+            let set = self.set.lend(side, &record);
+            let list = self.list.lend(side, list);
+            let lent = self.out.lend(side, left);
+            let answer = join(set, rows, cols, list, lent);
+            left.copy_from_slice(lent);
+            reply(answer)
+        })
+    }
+
     /// A scene's call on copies beside the page, with the page before them by the wrapper, with the page behind them by the C function; what it leaves goes
     /// back into what was lent.
     fn tiled(
@@ -275,15 +298,18 @@ impl Subject for Archive {
         list: &[u8],
         out: &mut [u8],
     ) -> Option<Reply> {
-        let record = set.record();
-        Some(both_sides(out, |side, left| {
-            let set = self.set.lend(side, &record);
-            let list = self.list.lend(side, list);
-            let lent = self.out.lend(side, left);
-            let answer = uramsheg::join(set, rows, cols, list, lent);
-            left.copy_from_slice(lent);
-            reply(answer)
-        }))
+        Some(self.joined(uramsheg::join, set, (rows, cols), list, out))
+    }
+
+    fn join_old(
+        &mut self,
+        set: &Set,
+        rows: usize,
+        cols: usize,
+        list: &[u8],
+        out: &mut [u8],
+    ) -> Option<Reply> {
+        Some(self.joined(uramsheg::join_old, set, (rows, cols), list, out))
     }
 
     fn correct(

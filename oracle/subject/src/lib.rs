@@ -1,6 +1,6 @@
 //! What is under test, behind one trait, and its answers as plain bytes.
 
-use cases::records::{SIZED, SPOT};
+use cases::records::{OLD, PRESENT, SPOT, cut};
 use cases::{Case, Feed, Given, Raw, Scene, Set, Start};
 
 #[cfg(feature = "archive")]
@@ -76,6 +76,18 @@ pub trait Subject {
 
     /// The join of a list of spot records into a lent buffer.
     fn join(
+        &mut self,
+        _set: &Set,
+        _rows: usize,
+        _cols: usize,
+        _list: &[u8],
+        _out: &mut [u8],
+    ) -> Option<Reply> {
+        None
+    }
+
+    /// The join of an old list of spot records into a lent buffer.
+    fn join_old(
         &mut self,
         _set: &Set,
         _rows: usize,
@@ -164,7 +176,8 @@ pub fn answer(subject: &mut dyn Subject, case: &Case) -> Option<Vec<u8>> {
             Some(with_reply(reply, &out))
         }
         Case::Join { .. } => joined(subject, case),
-        Case::Sized { scene } => sized(subject, scene),
+        Case::Sized { scene } => sized(subject, scene, false),
+        Case::OldSized { scene } => sized(subject, scene, true),
         Case::Correct { .. } => corrected(subject, case),
         Case::Octaves { rows, cols } => {
             let count = subject.octave_count(*rows, *cols)?;
@@ -192,6 +205,7 @@ pub fn answer(subject: &mut dyn Subject, case: &Case) -> Option<Vec<u8>> {
 
 fn joined(subject: &mut dyn Subject, case: &Case) -> Option<Vec<u8>> {
     let Case::Join {
+        old,
         set,
         rows,
         cols,
@@ -203,8 +217,11 @@ fn joined(subject: &mut dyn Subject, case: &Case) -> Option<Vec<u8>> {
         return None;
     };
     let mut out = vec![*fill; *room];
-    let reply = subject.join(set, *rows, *cols, list, &mut out)?;
-    Some(with_reply(reply, &out))
+    let reply = match old {
+        true => subject.join_old(set, *rows, *cols, list, &mut out),
+        false => subject.join(set, *rows, *cols, list, &mut out),
+    };
+    Some(with_reply(reply?, &out))
 }
 
 fn corrected(subject: &mut dyn Subject, case: &Case) -> Option<Vec<u8>> {
@@ -383,7 +400,7 @@ fn shortened(slice: &[f32]) -> Vec<u8> {
 /// Levels made of a raw map, then detection on them and the join.
 fn from_raw(subject: &mut dyn Subject, scene: &Scene, pixels: &[f32]) -> Option<Vec<u8>> {
     match made_of(subject, scene, pixels)? {
-        Ok(scene) => sized(subject, &scene),
+        Ok(scene) => sized(subject, &scene, false),
         Err(number) => Some(format!("refused {number}:").into_bytes()),
     }
 }
@@ -406,22 +423,22 @@ pub fn made_of(
     Some(made.map(|()| scene))
 }
 
-/// Detection into enough room, then the join of its list.
-fn sized(subject: &mut dyn Subject, scene: &Scene) -> Option<Vec<u8>> {
+/// Detection into enough room, then the join of its list, or the old lists' join of its records cut short.
+fn sized(subject: &mut dyn Subject, scene: &Scene, old: bool) -> Option<Vec<u8>> {
     let mut list = vec![0u8; 2 * SPOT * scene.rows * scene.cols];
     let reply = subject.detect(scene, &mut list)?;
     let Reply::Done(count) = reply else {
         return Some(with_reply(reply, &list));
     };
-    let mut out = vec![0x5au8; SIZED * count];
-    let reply = subject.join(
-        &scene.set,
-        scene.rows,
-        scene.cols,
-        &list[..SPOT * count],
-        &mut out,
-    )?;
-    Some(with_reply(reply, &out))
+    let (set, rows, cols) = (&scene.set, scene.rows, scene.cols);
+    let list = &list[..SPOT * count];
+    let form = if old { OLD } else { PRESENT };
+    let mut out = vec![0x5au8; form.sized * count];
+    let reply = match old {
+        true => subject.join_old(set, rows, cols, &cut(list), &mut out),
+        false => subject.join(set, rows, cols, list, &mut out),
+    };
+    Some(with_reply(reply?, &out))
 }
 
 fn with_reply(reply: Reply, out: &[u8]) -> Vec<u8> {

@@ -91,6 +91,23 @@ impl Piped {
         }
     }
 
+    /// One of the two joins, by its letter.
+    fn joined(
+        &mut self,
+        letter: u8,
+        set: &Set,
+        (rows, cols): (usize, usize),
+        list: &[u8],
+        out: &mut [u8],
+    ) -> Reply {
+        self.send(&[letter]);
+        self.bytes(&set.record());
+        self.numbers(&[rows, cols]);
+        self.bytes(list);
+        self.bytes(out);
+        self.reply(out)
+    }
+
     /// The floats of a buffer that was written.
     fn written(&mut self, out: &mut [f32]) {
         let mut bytes = vec![0; 4 * out.len()];
@@ -138,12 +155,18 @@ impl Subject for Piped {
         list: &[u8],
         out: &mut [u8],
     ) -> Option<Reply> {
-        self.send(b"j");
-        self.bytes(&set.record());
-        self.numbers(&[rows, cols]);
-        self.bytes(list);
-        self.bytes(out);
-        Some(self.reply(out))
+        Some(self.joined(b'j', set, (rows, cols), list, out))
+    }
+
+    fn join_old(
+        &mut self,
+        set: &Set,
+        rows: usize,
+        cols: usize,
+        list: &[u8],
+        out: &mut [u8],
+    ) -> Option<Reply> {
+        Some(self.joined(b'k', set, (rows, cols), list, out))
     }
 
     fn correct(
