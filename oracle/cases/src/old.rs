@@ -15,7 +15,8 @@ const PLACES: usize = homes::WALK + homes::KINDS * homes::KINDS;
 pub fn join(random: &mut Random, number: usize) -> Case {
     let turn = number / 8;
     match number % 8 {
-        0 | 1 => joined(random, 2 * turn + number % 8, OLD),
+        // all choices of its faults in turn, and none
+        faulty @ 0..2 => joined(random, 3 * turn + faulty, OLD),
         2 => damaged_records(random, OLD),
         3 => homes::join(random, 37 * turn % PLACES, OLD),
         4 => odd_length(random, turn, OLD),

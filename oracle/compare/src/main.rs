@@ -194,6 +194,8 @@ fn tally(seed: u64, times: usize) -> bool {
     let unfed = (!unfed.is_empty()).then(|| format!("no feed answers {unfed:?}"));
     let untiled = tally.scenes.not_reached();
     let untiled = (!untiled.is_empty()).then(|| format!("no scene answers {untiled:?}"));
+    let unjoined = tally.joins_not_reached();
+    let unjoined = (!unjoined.is_empty()).then(|| format!("no join answers {unjoined:?}"));
     own::told(
         "every-gate-rejects",
         fault,
@@ -227,6 +229,11 @@ fn tally(seed: u64, times: usize) -> bool {
             "every-answer-of-a-scene-is-reached",
             untiled,
             "0, 2, 3, 4, 8 and 10; 6 after no tile and after some; a tile that is detected twice",
+        )
+        & own::told(
+            "every-answer-of-both-joins-is-reached",
+            unjoined,
+            "0, 1, 4, 5 for the length and for a record, 6; 5 for a displacement alone where there is one",
         )
 }
 

@@ -5,12 +5,12 @@ use crate::judged::Judge;
 use crate::search::{Kind, kind};
 use cases::causes::STATISTIC;
 use cases::levels::TAPS;
-use cases::records::SPOT;
+use cases::records::{OLD, OLD_SIZED, PRESENT, SPOT, cut};
 use cases::scenes::{ONCE, RECORD};
 use cases::{Case, Scene, Start};
 use judge::{Logs, levels};
 use std::collections::BTreeMap;
-use subject::{Fed, Lent, Subject, Tiling, made_of};
+use subject::{Fed, Lent, Reply, Subject, Tiling, made_of};
 
 /// Counts over a run.
 #[derive(Default)]
@@ -27,6 +27,7 @@ pub struct Tally {
     kinds: BTreeMap<(&'static str, Kind), usize>,
     pairs: BTreeMap<(&'static str, [Kind; 2]), usize>,
     side: Option<Kind>,
+    joins: BTreeMap<(bool, &'static str), usize>,
     pub feeds: BTreeMap<String, Fedness>,
     pub scenes: Scenes,
 }
@@ -150,6 +151,52 @@ const UNREACHED: [&str; 5] = [
     "statistic, last quotient",
 ];
 
+/// What a join answers.
+const JOINS: [&str; 7] = [
+    "0",
+    "1",
+    "4",
+    "5 for the length",
+    "5 for a record",
+    DISPLACEMENT,
+    "6",
+];
+const DISPLACEMENT: &str = "5 for a displacement alone";
+
+/// A join's answer, told by its words and its list.
+fn join_answer(old: bool, list: &[u8], case: &Case, text: &str) -> &'static str {
+    let form = if old { OLD } else { PRESENT };
+    let words = text.split(':').next().unwrap_or_default();
+    match words.strip_prefix("refused ") {
+        None => "0",
+        Some("1") => "1",
+        Some("4") => "4",
+        Some("6") => "6",
+        Some(_) if !list.len().is_multiple_of(form.spot) => "5 for the length",
+        Some(words) => {
+            let index = words.strip_prefix("5 at ").and_then(|word| word.parse().ok());
+            let record = index.and_then(|index: usize| list.chunks_exact(form.spot).nth(index));
+            match record.is_some_and(|record| !old && taken_as_old(case, record)) {
+                true => DISPLACEMENT,
+                false => "5 for a record",
+            }
+        }
+    }
+}
+
+/// Whether the old lists' join takes a record's first bytes.
+fn taken_as_old(case: &Case, record: &[u8]) -> bool {
+    let Case::Join {
+        set, rows, cols, ..
+    } = case
+    else {
+        return false;
+    };
+    let mut out = [0; OLD_SIZED];
+    let reply = Judge::sound().join_old(set, *rows, *cols, &cut(record), &mut out);
+    reply == Some(Reply::Done(1))
+}
+
 /// The families at whose edges the kind of an answer turns.
 const EDGES: [&str; 3] = ["size-edge", "cause-edge", "statistic-edge"];
 
@@ -238,6 +285,14 @@ impl Tally {
         all
     }
 
+    /// The answers that none of the two joins has.
+    pub fn joins_not_reached(&self) -> Vec<(bool, &'static str)> {
+        let both = |answer| [(false, answer), (true, answer)];
+        let mut all: Vec<_> = JOINS.iter().copied().flat_map(both).collect();
+        all.retain(|one| *one != (true, DISPLACEMENT) && !self.joins.contains_key(one));
+        all
+    }
+
     /// The radii, 1 to 16, that no level was made with.
     pub fn radii_not_reached(&self) -> Vec<usize> {
         (1..TAPS)
@@ -249,6 +304,10 @@ impl Tally {
     pub fn add(&mut self, family: &str, case: &Case, answer: &[u8]) {
         *self.cases.entry(family.to_string()).or_default() += 1;
         let text = String::from_utf8_lossy(&answer[..answer.len().min(24)]).into_owned();
+        if let Case::Join { old, list, .. } = case {
+            let answer = join_answer(*old, list, case, &text);
+            *self.joins.entry((*old, answer)).or_default() += 1;
+        }
         if text.starts_with("refused") {
             let number: String = text
                 .split([' ', ':', '\n'])
@@ -263,7 +322,9 @@ impl Tally {
         }
         match case {
             Case::List { .. } => self.add_list(answer),
-            Case::Detect { scene, .. } | Case::Sized { scene } => self.add_scene(scene),
+            Case::Detect { scene, .. } | Case::Sized { scene } | Case::OldSized { scene } => {
+                self.add_scene(scene)
+            }
             Case::FromRaw { scene, pixels } => {
                 if let Some(Ok(scene)) = made_of(&mut Judge::sound(), scene, pixels) {
                     self.add_scene(&scene);
@@ -369,6 +430,10 @@ impl Tally {
         println!(
             "scenes list {records} records, in {tiles} tiles at most; {twice} tiles are detected twice"
         );
+        for ((old, answer), count) in &self.joins {
+            let of = if *old { "old lists" } else { "lists" };
+            println!("joins of {of}, {answer}: {count}");
+        }
         for (place, count) in &self.returns {
             println!("returns, {place}: {count}");
         }
