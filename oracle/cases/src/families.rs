@@ -263,7 +263,13 @@ pub(crate) fn full_of(random: &mut Random, rows: usize, cols: usize) -> Scene {
     }
 }
 
-/// About as many spots as the list program prints: 1,299, 1,300 and 1,301 of them, and three more counts, by the number.
+/// The same on sides that the list program takes.
+fn full(random: &mut Random) -> Scene {
+    let (rows, cols) = random.pick(&[(60, 60), (60, 60), (48, 49), (9, 60), (30, 20)]);
+    full_of(random, rows, cols)
+}
+
+/// About as many spots as the list program prints, by the number: 1,299, 1,300 or 1,301 of them, or 1,295, 1,296 or 1,302.
 fn full_to_the_limit(random: &mut Random, number: usize) -> Scene {
     let sides = [(33, 60), (58, 34), (50, 39), (44, 44)];
     let (rows, cols) = sides[number % sides.len()];
@@ -274,12 +280,6 @@ fn full_to_the_limit(random: &mut Random, number: usize) -> Scene {
         scene.levels[random.below(4)][3 * rows + 2] = f32::NAN;
     }
     scene
-}
-
-/// The same on sides that the list program takes.
-fn full(random: &mut Random) -> Scene {
-    let (rows, cols) = random.pick(&[(60, 60), (60, 60), (48, 49), (9, 60), (30, 20)]);
-    full_of(random, rows, cols)
 }
 
 /// The faults of number `number`: four that any two can hold at once, and none most often.

@@ -178,7 +178,11 @@ impl<'a> Lane<'a> {
         let mut answer = Err(6);
         if random.once_in(8) {
             let before = self.held();
-            answer = self.call((0, rows), random.pick(&[0, SPOT - 1, SPOT]).min(room), usize::MAX);
+            answer = self.call(
+                (0, rows),
+                random.pick(&[0, SPOT - 1, SPOT]).min(room),
+                usize::MAX,
+            );
             if answer == Err(6) && self.held() != before {
                 return Err(self.told("refused for its room, and something changed"));
             }

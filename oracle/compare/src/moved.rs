@@ -6,7 +6,7 @@ use crate::plan;
 use cases::records::{MOVED, OLD_SIZED, OLD_SPOT, SIZED, SPOT, cut, put_moved};
 use cases::{Case, Scene, Set};
 use judge::{Answer, Logs};
-use subject::{difference, made_of};
+use subject::{Reply, difference, made_of};
 
 /// The largest displacement, f32's 0.6.
 const FARTHEST: f32 = f32::from_bits(0x3f19_999a);
@@ -105,7 +105,10 @@ fn parted(set: &Set, (rows, cols): (usize, usize), list: &[u8], room: usize) -> 
     };
     match due {
         true => Ok(()),
-        false => Err(format!("{:?}, without displacements {:?}", given.0, still.0)),
+        false => Err(format!(
+            "{:?}, without displacements {:?}",
+            given.0, still.0
+        )),
     }
 }
 
@@ -137,7 +140,11 @@ pub fn old_lists(seed: u64, times: usize) -> bool {
         });
     }
     let seen = format!("{lists} lists, {records} records");
-    told("an-old-list-gives-the-join-without-displacements", first, &seen)
+    told(
+        "an-old-list-gives-the-join-without-displacements",
+        first,
+        &seen,
+    )
 }
 
 /// A list with its set and sides, and room for so many sized records.
@@ -146,8 +153,9 @@ type List = (Set, (usize, usize), Vec<u8>, usize);
 /// The list of a case, or the one that detection writes of its map.
 fn list_of(case: &Case) -> Option<List> {
     let detected = |scene: &Scene| {
-        let list = whole(Judge::sound(), scene).1;
-        let count = list.len() / SPOT;
+        let (Some(Reply::Done(count)), list) = whole(Judge::sound(), scene) else {
+            return None;
+        };
         Some((scene.set.clone(), (scene.rows, scene.cols), list, count))
     };
     match case {

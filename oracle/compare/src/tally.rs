@@ -174,7 +174,9 @@ fn join_answer(old: bool, list: &[u8], case: &Case, text: &str) -> &'static str 
         Some("6") => "6",
         Some(_) if !list.len().is_multiple_of(form.spot) => "5 for the length",
         Some(words) => {
-            let index = words.strip_prefix("5 at ").and_then(|word| word.parse().ok());
+            let index = words
+                .strip_prefix("5 at ")
+                .and_then(|word| word.parse().ok());
             let record = index.and_then(|index: usize| list.chunks_exact(form.spot).nth(index));
             match record.is_some_and(|record| !old && taken_as_old(case, record)) {
                 true => DISPLACEMENT,

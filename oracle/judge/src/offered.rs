@@ -2,9 +2,9 @@
 
 use super::blur::BaseImage;
 use super::{GrayImage, reference, scale_fit, stream};
-use crate::extraction::ScaleSpaceKeypoint;
 use crate::moves;
 use crate::record::Spot;
+use crate::shims::extraction::ScaleSpaceKeypoint;
 use crate::{Map, Pass, Thresholds};
 use std::time::Instant;
 

@@ -246,7 +246,10 @@ fn both_builds_move_a_spot_as_far() {
             accepted += usize::from(taken);
             zeros += moved.filter(|delta| delta.to_bits() == 0).count();
         }
-        println!("{}: {accepted} of 40000 accepted, {zeros} zeros", fixed::NAMES[index]);
+        println!(
+            "{}: {accepted} of 40000 accepted, {zeros} zeros",
+            fixed::NAMES[index]
+        );
         assert!(accepted > 200, "{}: too few", fixed::NAMES[index]);
     }
 }

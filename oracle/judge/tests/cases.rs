@@ -312,7 +312,10 @@ fn both_joins_refuse_in_their_order_and_size_p9() {
         let (answer, out) = run(&Set::t(), 9, record, sized + 8);
         assert_eq!((answer, &out[..spot]), (Answer::Done(1), record));
         assert_eq!(out[spot + 4..spot + 8], [4, 0, 5, 0]);
-        assert_eq!((&out[spot + 9..sized], &out[sized..]), (&[0; 3][..], &[9; 8][..]));
+        assert_eq!(
+            (&out[spot + 9..sized], &out[sized..]),
+            (&[0; 3][..], &[9; 8][..])
+        );
     }
 }
 
@@ -330,14 +333,32 @@ fn what_an_old_list_gives_is_the_joins_without_the_displacement() {
     let record = record_of_m();
     let (mut present, mut former) = ([0; SIZED], [0; OLD_SIZED]);
     judge::join(Logs::Steps, &Set::t(), 9, 10, &record, &mut present);
-    judge::join_old(Logs::Steps, &Set::t(), 9, 10, &record[..OLD_SPOT], &mut former);
-    assert_eq!(former[..], [&present[..OLD_SPOT], &present[SPOT..]].concat());
+    judge::join_old(
+        Logs::Steps,
+        &Set::t(),
+        9,
+        10,
+        &record[..OLD_SPOT],
+        &mut former,
+    );
+    assert_eq!(
+        former[..],
+        [&present[..OLD_SPOT], &present[SPOT..]].concat()
+    );
 }
 
 #[test]
 fn a_record_is_bad_where_its_displacement_is_too_far_or_not_finite() {
     let farthest = f32::from_bits(0x3f19_999a);
-    let fine = [0.0, -0.0, 0.5, farthest, -farthest, 1e-45, -f32::MIN_POSITIVE];
+    let fine = [
+        0.0,
+        -0.0,
+        0.5,
+        farthest,
+        -farthest,
+        1e-45,
+        -f32::MIN_POSITIVE,
+    ];
     let bad = [
         farthest.next_up(),
         (-farthest).next_down(),

@@ -172,5 +172,8 @@ fn a_home_is_the_tiles_own() {
     assert_eq!(untiled[0][..4], 4092.5f32.to_le_bytes());
     assert_eq!(untiled[0][54..56], 4093u16.to_le_bytes());
     let moved = [0.499_99f32, 0.0].map(f32::to_le_bytes).concat();
-    assert_eq!((&out[44..52], &untiled[0][40..48]), (&moved[..], &moved[..]));
+    assert_eq!(
+        (&out[44..52], &untiled[0][40..48]),
+        (&moved[..], &moved[..])
+    );
 }

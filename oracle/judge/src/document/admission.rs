@@ -30,8 +30,8 @@ pub fn admits(
             && record::readable(rows, cols, laid)
             && (0..9).all(|index| all_finite(&samples_at(index)))
     };
-    let listed = here().rules == Rules::Published
-        || counting::let_pass(counting::EXTRA, sound(&laid()));
+    let listed =
+        here().rules == Rules::Published || counting::let_pass(counting::EXTRA, sound(&laid()));
     if listed {
         moves::note(geometry, moved);
     }

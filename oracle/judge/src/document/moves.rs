@@ -18,7 +18,10 @@ pub fn still(before: &ScaleSpaceKeypoint) -> ScaleSpaceKeypoint {
 
 /// Where a still spot ended; the refinement asks for no place, and accepts it as it accepted the spot.
 pub fn displacement(accepted: bool, still: &ScaleSpaceKeypoint) -> [f32; 2] {
-    assert!(accepted, "a spot is accepted at its place and not at (0, 0)");
+    assert!(
+        accepted,
+        "a spot is accepted at its place and not at (0, 0)"
+    );
     [still.x, still.y]
 }
 
