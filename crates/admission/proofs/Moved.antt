@@ -1,19 +1,19 @@
 -- A listed record's place is its own pixel plus its displacement, rounded once, and the displacement is at most 0.6 in size each way, so that a reader can check both.
 -- Assumes nothing: a zero's sign does not show in a sum with a whole number, so that the displacement as kept gives the same sum as the one computed.
-use Prim.Native.Nat.{ℕ, zero, suc, _*_, _/_, _%_}
+use Prim.Native.Nat.{ℕ, zero, suc, _/_, _%_}
 use native.Mathlib.Nat.{zero-mul}
-use mathlib.Core.Path.{_≡_, refl, sym, ap, subst, _∙_}
-use mathlib.Core.Bool.{Bool, true, false, false≢true, cond}
+use mathlib.Core.Path.{_≡_, refl, _∙_}
+use mathlib.Core.Bool.{Bool}
 use mathlib.Core.List.{List}
 use lib.IntN.{ℤ, pos}
 use lib.Dec.{T}
-use lib.Ieee.{Float, nan, inf, fin, binary32, fits, ofInt, ofBits, eq, up, down}
+use lib.Ieee.{Float, nan, inf, fin, binary32, fits, ofBits, eq, up, down}
 use lib.Ieee.Fits.{div-fits}
 use lib.Ieee.Back.{whole-unique}
-use Rattle.float.specs.Num.{_⊕_, f0}
+use Rattle.float.specs.Num.{f0}
 use Rattle.float.proofs.Floats.{eq-zero, zero-eq-zero}
-use Rattle.moves.specs.Moves.{nearby, keptOf}
-use Rattle.moves.proofs.MovesLaws.{kept-nearby, zero-kept, other-kept}
+use Rattle.moves.specs.Moves.{keptOf}
+use Rattle.moves.proofs.MovesLaws.{kept-nearby, kept-positive, zero-kept, other-kept}
 use Rattle.tables.specs.declared.Set.{Set}
 use Rattle.tables.specs.declared.Thresholds.{Thresholds}
 use Rattle.fit.specs.Near.{Near, same, zeros}
@@ -47,15 +47,6 @@ near-kept nan h = same
 near-kept (inf s) h = same
 near-kept (fin s zero e) h = rw (zero-kept (fin s zero e) (zero-eq-zero s e), one-zero s e h) zeros
 near-kept (fin s (suc m) e) h = rw (other-kept (fin s (suc m) e) (eq-zero s m e)) same
-
--- a zero that is kept is +0
-kept-positive : (d : Float) → eq (keptOf d) f0 ≡ true → keptOf d ≡ f0
-unfolding keptOf
-kept-positive d h = go (eq d f0) refl h
-  where
-    go : (t : Bool) → eq d f0 ≡ t → eq (cond t f0 d) f0 ≡ true → cond t f0 d ≡ f0
-    go true e g = refl
-    go false e g = absurd (false≢true (sym e ∙ g))
 
 -- ---- a record
 

@@ -18,7 +18,7 @@ use Rattle.tables.proofs.SetLaws.{every-or-default}
 use Rattle.moves.proofs.MovesLaws.{nearby-bounds}
 use Rattle.record.specs.declared.Record.{Record}
 use Rattle.record.specs.Layout.{oldBytes, recordBytes, recordWith, recordFrom, oldFrom}
-use Rattle.record.specs.Readable.{readable, Readable}
+use Rattle.record.specs.Readable.{readable}
 use Rattle.record.proofs.LayoutLaws.{length-oldBytes, length-recordBytes}
 use Rattle.record.proofs.ReadableLaws.{readable-parts}
 use Rattle.record.proofs.Converse as converse

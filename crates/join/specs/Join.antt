@@ -59,7 +59,7 @@ pub record Outcome : Type 0 where
 abbrev pub outcome : Joined → List ℕ → Outcome
 outcome a b = record { answer = a; buffer = b }
 
--- the sized records first, then the old bytes
+-- the sized records first, then the bytes that were there
 unfoldable pub laidSized : Bool → Set → List ℕ → List ℕ → List ℕ
 laidSized old s b out = let sized = sizedAll old s (recordsOf old b) in sized ++ drop (length sized) out
 

@@ -1,6 +1,6 @@
 -- Laws of displacements. Assumes nothing.
-use mathlib.Core.Path.{_≡_, refl}
-use mathlib.Core.Bool.{Bool, true, false, cond}
+use mathlib.Core.Path.{_≡_, refl, sym, _∙_}
+use mathlib.Core.Bool.{Bool, true, false, false≢true, cond}
 use borrow.Author.Tests.{not-true}
 use lib.Dec.{T}
 use lib.Ieee.{Float, binary32, fits, ofBits, lt, eq}
@@ -14,7 +14,8 @@ pub nearby-bounds : (d : Float) → nearby d ≡ true → (finite d ≡ true) ×
 unfolding nearby
 nearby-bounds d h = let parts = both (finite d) _ h in (parts .0, not-true _ (parts .1))
 
-zero-nearby : nearby f0 ≡ true
+-- no displacement at all passes
+pub zero-nearby : nearby f0 ≡ true
 unfolding nearby finite absOf ofBits lt
 zero-nearby = refl
 
@@ -41,7 +42,16 @@ pub zero-kept : (d : Float) → eq d f0 ≡ true → keptOf d ≡ f0
 unfolding keptOf
 zero-kept d h = rw h
 
--- and any other as it is
+-- so a zero that is kept is +0
+pub kept-positive : (d : Float) → eq (keptOf d) f0 ≡ true → keptOf d ≡ f0
+unfolding keptOf
+kept-positive d h = go (eq d f0) refl h
+  where
+    go : (t : Bool) → eq d f0 ≡ t → eq (cond t f0 d) f0 ≡ true → cond t f0 d ≡ f0
+    go true e g = refl
+    go false e g = absurd (false≢true (sym e ∙ g))
+
+-- and any other displacement as it is
 pub other-kept : (d : Float) → eq d f0 ≡ false → keptOf d ≡ d
 unfolding keptOf
 other-kept d h = rw h

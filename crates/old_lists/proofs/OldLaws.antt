@@ -1,20 +1,15 @@
 -- The join of an old list is the join as it was before displacements were kept, on every list; and an old record has the size and the home of the present one.
-use Prim.Native.Nat.{ℕ, zero, suc, _+_, _*_, _/_}
-use mathlib.Core.Bool.{Bool, true, cond, _&&_, and-true}
-use mathlib.Core.List.{List, [], _∷_, _++_}
-use mathlib.Core.Path.{_≡_, refl, sym, ap, _∙_}
-use lib.ListN.{length, drop}
-use lib.Ieee.{Float, ofBits, lt}
-use Rattle.float.specs.Num.{f0}
-use Rattle.float.specs.Small.{finite, absOf}
-use Rattle.tables.specs.Refusal.{firstOf}
+use Prim.Native.Nat.{ℕ, zero, suc, _/_}
+use mathlib.Core.Bool.{true, and-true}
+use mathlib.Core.List.{List}
+use mathlib.Core.Path.{_≡_, refl}
+use lib.ListN.{length}
 use Rattle.tables.specs.declared.Set.{Set}
 use Rattle.tables.specs.declared.Checked.{Checked}
 use Rattle.tables.specs.declared.Checked.the-variants.{Fine, Bad}
-use Rattle.moves.specs.Moves.{nearby}
-use Rattle.record.specs.declared.Record.{Record}
+use Rattle.moves.proofs.MovesLaws.{zero-nearby}
 use Rattle.record.specs.Layout.{floats4, oldBytes, recordWith, recordFrom, oldFrom}
-use Rattle.record.specs.Readable.{finiteRecord, readable, Readable}
+use Rattle.record.specs.Readable.{finiteRecord, readable}
 use Rattle.record.proofs.ReadableLaws.{readable-parts, parts-readable}
 use Rattle.sized.specs.Sized.{sizeOf, homeOf, oldSizedBytes}
 use Rattle.join.specs.Forms.{recordIn}
@@ -23,15 +18,10 @@ use Rattle.old_lists.specs.Before.{readableBefore, badBefore, checksBefo
 
 -- ---- as before
 
--- the displacement with which an old record is read passes
-none-nearby : nearby f0 ≡ true
-unfolding nearby finite absOf ofBits lt
-none-nearby = refl
-
 module _ (rows cols : ℕ) (b : List ℕ) where
   readable-before : (i : ℕ) → readable rows cols (recordIn true b i) ≡ readableBefore rows cols b i
   unfolding readable finiteRecord readableBefore oldFrom recordWith
-  readable-before i = rw (none-nearby, and-true, and-true)
+  readable-before i = rw (zero-nearby, and-true, and-true)
 
   bad-before : (n i : ℕ) → firstBad true rows cols b n i ≡ badBefore rows cols b n i
   unfolding firstBad badBefore
@@ -85,6 +75,6 @@ module _ (b : List ℕ) (at : ℕ) where
         index = p .index;
         polarity = p .polarity;
         spare = p .spare;
-        dx = none-nearby;
-        dy = none-nearby;
+        dx = zero-nearby;
+        dy = zero-nearby;
       })
