@@ -52,17 +52,21 @@ tail-parts a at size home sigma-is accepted-is missing-is b-is c-is d-is e-is =
     simp (sets-append, length-floatBytes, length-halfBytes, add-assoc) (rw (e-is, d-is, c-is, b-is, sigma-is, accepted-is, missing-is))
 
 -- a record and its tail, stored one after the other
-pub sized-parts : {b c : List ℕ} (a : List ℕ) (at : ℕ) (s : Set) (r : Record)
+pub sized-parts : {b c : List ℕ} {size : Corrected} {home : Home} (a : List ℕ) (at : ℕ) (s : Set) (r : Record)
+    → size ≡ sizeOf s r
+    → home ≡ homeOf r
     → b ≡ sets a at (recordBytes r)
-    → c ≡ sets b (at + spotWidth) (tailBytes (sizeOf s r) (homeOf r))
+    → c ≡ sets b (at + spotWidth) (tailBytes size home)
     → c ≡ sets a at (sizedBytes s r)
 unfolding sizedBytes
-sized-parts a at s r b-is c-is = simp (sets-append, length-recordBytes) (rw (c-is, b-is))
+sized-parts a at s r size-is home-is b-is c-is = simp (sets-append, length-recordBytes) (rw (c-is, b-is, size-is, home-is))
 
 -- and the same of an old one
-pub old-sized-parts : {b c : List ℕ} (a : List ℕ) (at : ℕ) (s : Set) (r : Record)
+pub old-sized-parts : {b c : List ℕ} {size : Corrected} {home : Home} (a : List ℕ) (at : ℕ) (s : Set) (r : Record)
+    → size ≡ sizeOf s r
+    → home ≡ homeOf r
     → b ≡ sets a at (oldBytes r)
-    → c ≡ sets b (at + oldWidth) (tailBytes (sizeOf s r) (homeOf r))
+    → c ≡ sets b (at + oldWidth) (tailBytes size home)
     → c ≡ sets a at (oldSizedBytes s r)
 unfolding oldSizedBytes
-old-sized-parts a at s r b-is c-is = simp (sets-append, length-oldBytes) (rw (c-is, b-is))
+old-sized-parts a at s r size-is home-is b-is c-is = simp (sets-append, length-oldBytes) (rw (c-is, b-is, size-is, home-is))

@@ -88,17 +88,6 @@ fn put_tail(out: &mut [u8], at: usize, size: Corrected, home: Home)
     words::put_bytes(out, at + 8, accepted_of(size), missing_of(size), 0, 0);
 }
 
-// What follows a record, by its own size and home, from the byte at on.
-fn put_own(out: &mut [u8], at: usize, set: Set, r: Record)
-    requires { ⌜ at + 12 ≤ length (now out) ⌝ }
-    requires { ⌜ Placed r ⌝ }
-    ensures { λ _. ⌜ now (out .exit) ≡ sets (now (out .entry)) at (tailBytes (sizeOf set r) (homeOf r)) ⌝ }
-{
-    let size = size_of(set, r);
-    let home = home_of(r);
-    put_tail(out, at, size, home);
-}
-
 // A sized record's bytes from the byte at on.
 pub fn put_sized(out: &mut [u8], at: usize, set: Set, r: Record)
     requires { ⌜ at + sizedWidth ≤ length (now out) ⌝ }
@@ -106,7 +95,9 @@ pub fn put_sized(out: &mut [u8], at: usize, set: Set, r: Record)
     ensures { λ _. ⌜ now (out .exit) ≡ sets (now (out .entry)) at (sizedBytes set r) ⌝ }
 {
     record::put_record(out, at, r);
-    put_own(out, at + SPOT_WIDTH, set, r);
+    let size = size_of(set, r);
+    let home = home_of(r);
+    put_tail(out, at + SPOT_WIDTH, size, home);
 }
 
 // An old sized record's bytes from the byte at on.
@@ -116,5 +107,7 @@ pub fn put_old_sized(out: &mut [u8], at: usize, set: Set, r: Record)
     ensures { λ _. ⌜ now (out .exit) ≡ sets (now (out .entry)) at (oldSizedBytes set r) ⌝ }
 {
     record::put_old(out, at, r);
-    put_own(out, at + OLD_WIDTH, set, r);
+    let size = size_of(set, r);
+    let home = home_of(r);
+    put_tail(out, at + OLD_WIDTH, size, home);
 }
