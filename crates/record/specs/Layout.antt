@@ -49,7 +49,7 @@ unfoldable pub bytesOf : List Record → List ℕ
 bytesOf [] = []
 bytesOf (r ∷ rs) = recordBytes r ++ bytesOf rs
 
--- the whole records that fit, first ones first, then the old bytes
+-- the whole records that fit, first ones first, then the bytes that were there
 unfoldable pub laid : List Record → List ℕ → List ℕ
 laid rs out = let b = bytesOf (take (length out / spotWidth) rs) in b ++ drop (length b) out
 
