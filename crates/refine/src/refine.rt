@@ -13,18 +13,19 @@ use tables::Set;
 fn placed(spot: Spot, index: u8, dx: f32, dy: f32) -> Refined
     ensures { λ r. ⌜ r ≡ placedOf spot index dx dy ⌝ }
 {
+    let moved = Spot {
+        x: spot.x + dx,
+        y: spot.y + dy,
+        sigma: spot.sigma,
+        peak: spot.peak,
+        octave: spot.octave,
+        index,
+        max: spot.max,
+        dx,
+        dy,
+    };
     if moves::is_nearby(dx) & moves::is_nearby(dy) {
-        Refined::Accepted(Spot {
-            x: spot.x + dx,
-            y: spot.y + dy,
-            sigma: spot.sigma,
-            peak: spot.peak,
-            octave: spot.octave,
-            index,
-            max: spot.max,
-            dx,
-            dy,
-        })
+        Refined::Accepted(moved)
     } else {
         Refined::Rejected
     }

@@ -12,7 +12,7 @@ is-nearby-requires-2 c κs = search needs
 
 returns : tie.Need-returns
 unfolding placedOf
-returns c = rw (← c .before .before .before .before .is-nearby .ensures, ← c .before .before .before .is-nearby2 .ensures, c .before .before .if1 .taken)
+returns c = rw (← c .before .before .is-nearby .ensures, ← c .before .is-nearby2 .ensures, c .if1 .taken)
 
 returns-2 : tie.Need-returns-2
 unfolding placedOf
