@@ -1,5 +1,5 @@
 /* Uramsheg's detector: makes the four blurred levels of a raw gas map, lists the spots of four levels, whole, column by column or, of a large scene, tile by
- * tile, and gives each its size. Proved in Rattle; see docs/PROMISES.md.
+ * tile, and gives each its size; and keeps the sets of two desks in one table. Proved in Rattle; see docs/PROMISES.md.
  *
  * Link with libalp_c.a (`tests/staticlib alp_c` writes target/staticlib/libalp_c.a); it needs nothing else.
  * Every call ends, whatever it is given. A slice is a pointer and its length in elements; a pointer must be valid for that length, and what is written to
@@ -52,6 +52,9 @@ enum { URAMSHEG_OLD_SPOT_BYTES = 40, URAMSHEG_OLD_SIZED_BYTES = 52 };
 /* A scene: its records' bytes, its longest side, how far apart its tiles start, and how long they are. */
 enum { URAMSHEG_SCENE_BYTES = 64, URAMSHEG_SCENE_LONGEST = 16384, URAMSHEG_TILE_STEP = 4088, URAMSHEG_TILE_LENGTH = 4096 };
 
+/* A table of sets that two desks share: its bytes, its slots, and the desks. */
+enum { URAMSHEG_TABLE_BYTES = 4264, URAMSHEG_TABLE_SLOTS = 8, URAMSHEG_DESK_DAILY = 1, URAMSHEG_DESK_REPROCESSING = 2 };
+
 /* What a call answers: 0, or why it was refused. Of the call's checks, in its order, the first that holds is answered; each call gives its order below,
  * and the numbers say nothing about it. */
 enum {
@@ -66,7 +69,10 @@ enum {
     URAMSHEG_REFUSED_NO_SIZE = 7,   /* the spot has no size; *cause says why */
     URAMSHEG_REFUSED_THRESHOLDS = 8, /* a threshold is not a number: one of the five is a NaN, as a blank in a sheet reads */
     URAMSHEG_REFUSED_PAST = 9,       /* all columns of the feed have come: start another */
-    URAMSHEG_REFUSED_SCENE = 10      /* rows or cols of a scene above 16384: cut it into several */
+    URAMSHEG_REFUSED_SCENE = 10,     /* rows or cols of a scene above 16384: cut it into several */
+    URAMSHEG_REFUSED_NOT_YOURS = 11, /* the table is not 4264 bytes long, the desk not 1 or 2, the slot above 7, or not free for a claim, not the desk's own
+                                        for a write or a release, of neither desk for a run */
+    URAMSHEG_REFUSED_COUNT = 12      /* the slot's write count is 4294967295, the largest: use another slot */
 };
 
 /* Why a spot has no size: of the two, in this order, the first that holds. It stands in byte 57 of a sized record, 49 of an old one, and in *cause
@@ -196,6 +202,45 @@ uint32_t uramsheg_scene(const uint8_t *set, size_t set_length,
                         float *tile0, size_t tile0_length, float *tile1, size_t tile1_length,
                         float *tile2, size_t tile2_length, float *tile3, size_t tile3_length,
                         uint8_t *out, size_t out_length, uint64_t *value);
+
+/* A table of sets for two desks: eight slots, each with a set record, an owner and a write count, so that reprocessing has its own sets beside the daily
+ * desk's. A desk claims a free slot, writes its own, and gives it back; anybody may run detection from a slot that a desk owns.
+ *
+ * The table (4264 bytes, little-endian), lent at each call: 0 eight set records of 528 bytes; 4224 eight owner bytes (0 free, 1 daily, 2 reprocessing; 3 to
+ * 255 is nobody's, and such a slot can be neither claimed nor written nor released nor run from); 4232 eight write counts (u32 each). A new table is 4264
+ * zeros. It has no pointer in it, so that it may be copied, kept and sent. Two calls that run at the same time must not be lent the same table, but for runs,
+ * which only read it.
+ *
+ * What a desk's own slot holds is the desk's alone: from its claim until its release, whatever the other desk calls, with whatever answers, the slot keeps its
+ * set, owner and count; so neither a run from it nor a refusal of a write there depends on the other desk. Two things do: whether a claim is granted depends on
+ * which slots are free, and a run from the other desk's slot on the set that it finds there.
+ * The counts only rise, by one for each claim or write that is done, and never wrap. Where a slot has the same count and the same owner as before, its set was
+ * not written in between.
+ *
+ * Each of the three calls that follow answers 0. Refused, it answers the number, and the table is untouched. */
+
+/* Claims a free slot for a desk: its set record becomes zeros, which no run takes before it is written (4), its owner the desk, its count one more.
+ * Refused with 11 for the table's length, the desk, the slot or one that is not free, then with 12. */
+uint32_t uramsheg_desk_claim(uint8_t *table, size_t table_length, size_t desk, size_t slot);
+
+/* Writes a set record to a slot of the desk's own; its count becomes one more.
+ * Refused with 11 for the table's length, the desk, the slot or one that is not the desk's, then with 12, then with 4 for the record. `set` must not overlap
+ * the table. */
+uint32_t uramsheg_desk_write(uint8_t *table, size_t table_length, size_t desk, size_t slot, const uint8_t *set, size_t set_length);
+
+/* Gives a slot of the desk's own back: its owner becomes 0; its set and its count stay.
+ * Refused with 11 for the table's length, the desk, the slot or one that is not the desk's. */
+uint32_t uramsheg_desk_release(uint8_t *table, size_t table_length, size_t desk, size_t slot);
+
+/* Lists the spots of four levels as uramsheg_detect does, under the set that stands in a slot at the call. The slot may be either desk's.
+ * Refused with 11 for the table's length, the slot or one that neither desk owns, then as uramsheg_detect (1, 2, 3, 8, 4: a slot that was claimed and not yet
+ * written is 4); *value is then 0, and `out` is untouched. The table is only read. */
+uint32_t uramsheg_desk_run(const uint8_t *table, size_t table_length, size_t slot,
+                           float peak_threshold, float sigma_threshold, float curvature_ratio, float window_low, float window_high,
+                           size_t rows, size_t cols, size_t octave,
+                           const float *level0, size_t level0_length, const float *level1, size_t level1_length,
+                           const float *level2, size_t level2_length, const float *level3, size_t level3_length,
+                           uint8_t *out, size_t out_length, uint64_t *value);
 
 /* The corrected sigma of a spot with these centre samples, this sigma and this polarity, in *corrected, and 0 in *cause.
  * Refused (checked in the order 4, 7), it neither reads nor writes *corrected, which may be unset; *cause is 0 beside 4, and beside 7 why the spot has no
