@@ -1,4 +1,8 @@
 // The detector's entries, each from the crate that has its promise.
+pub use desk_run::run;
+pub use desks::claim;
+pub use desks::release;
+pub use desks::write;
 pub use detect::detect;
 pub use feed::feed_column;
 pub use feed::feed_start;

@@ -1,4 +1,5 @@
 // The C face of the detector: thin, each function one call.
+mod desking; // desking.rt: the table that two desks share
 mod feeding; // feeding.rt: the feed of columns
 mod scenes; // scenes.rt: whole scenes
 
@@ -12,6 +13,10 @@ ghost use Rattle.face_correct.specs.Face.{sizeLeft, correctFace};
 ghost use Rattle.face_halve.specs.Face.{halvedLeft, downsampleFace};
 ghost use Rattle.face_levels.specs.Face.{levelsLeft, levelsFace};
 ghost use Rattle.face_detect.specs.Face.{detectFace};
+pub use desking::uramsheg_desk_claim;
+pub use desking::uramsheg_desk_release;
+pub use desking::uramsheg_desk_run;
+pub use desking::uramsheg_desk_write;
 pub use feeding::uramsheg_feed_column;
 pub use feeding::uramsheg_feed_start;
 pub use scenes::uramsheg_scene;

@@ -2,3 +2,4 @@
 pub mod Table
 pub mod Cuts
 pub mod Moves
+pub mod Desks

@@ -6,3 +6,4 @@ pub mod Feeds
 pub mod Scenes
 pub mod Table
 pub mod Moves
+pub mod Desks

@@ -23,17 +23,17 @@ use Rattle.detect.proofs.DetectLaws.{Passed, checks-passed}
 
 -- ---- what an answer tells of the checks
 
-answer-refused : (w : Checked) (m : Maps) (out : List ℕ) (r : Refusal) → detected w m out .answer ≡ Refused r → w ≡ Bad r
+pub answer-refused : (w : Checked) (m : Maps) (out : List ℕ) (r : Refusal) → detected w m out .answer ≡ Refused r → w ≡ Bad r
 unfolding detected
 answer-refused (Bad q) m out r e = cc
 answer-refused Fine m out r e = cc
 
-buffer-kept : (w : Checked) (m : Maps) (out : List ℕ) (r : Refusal) → detected w m out .answer ≡ Refused r → detected w m out .buffer ≡ out
+pub buffer-kept : (w : Checked) (m : Maps) (out : List ℕ) (r : Refusal) → detected w m out .answer ≡ Refused r → detected w m out .buffer ≡ out
 unfolding detected
 buffer-kept (Bad q) m out r e = refl
 buffer-kept Fine m out r e = cc
 
-answer-found : (w : Checked) (m : Maps) (out : List ℕ) (n : ℕ) → detected w m out .answer ≡ Found n → w ≡ Fine
+pub answer-found : (w : Checked) (m : Maps) (out : List ℕ) (n : ℕ) → detected w m out .answer ≡ Found n → w ≡ Fine
 unfolding detected
 answer-found (Bad q) m out n e = cc
 answer-found Fine m out n e = refl

@@ -6,7 +6,7 @@ use detect::Answer;
 use tables::Thresholds;
 
 // The number of an answer: 0, or that of the refusal.
-fn number_of(answer: Answer) -> u32
+pub fn number_of(answer: Answer) -> u32
     ensures { λ r. ⌜ r ≡ packed answer .number ⌝ }
 {
     match answer {
@@ -16,7 +16,7 @@ fn number_of(answer: Answer) -> u32
 }
 
 // Its value: the count, or the value that goes with the refusal.
-fn value_of(answer: Answer) -> u64
+pub fn value_of(answer: Answer) -> u64
     ensures { λ r. ⌜ r ≡ packed answer .value ⌝ }
 {
     match answer {

@@ -1,15 +1,15 @@
 -- What is stored in a buffer: in parts, and from its start on. Assumes nothing.
-use Prim.Native.Nat.{ℕ, zero, suc, _+_, _-_, _≤_, _<_}
-use native.Mathlib.Nat.{not-suc-le-zero, eq-zero-or-pos}
+use Prim.Native.Nat.{ℕ, _+_, _-_, _≤_, _<_}
+use native.Mathlib.Nat.{eq-zero-or-pos}
 use native.Mathlib.Numerals.{add-one}
 use native.Mathlib.Omega.{arith}
 use mathlib.Core.Path.{_≡_, refl, sym, ap, _∙_}
 use mathlib.Core.Logic.{⊎-elim}
 use mathlib.Core.List.{List, [], _∷_, _++_, append-nil}
-use lib.ListN.{length, getD, drop, drop-of-length-le, set, length-set, length-append, length-drop, List·getD-append}
-use lib.Seq.{sets, length-sets, sets-eq, ext-getD, getD-set-same, getD-set-other, getD-append-add, getD-drop}
+use lib.ListN.{length, getD, drop, drop-of-length-le, set, length-append, length-drop, List·getD-append}
+use lib.Seq.{sets, length-sets, sets-eq, ext-getD, getD-append-add, getD-drop}
 use lib.Ieee.{Float, nan}
-use Rattle.words.proofs.Stores.{sets-append}
+use Rattle.words.proofs.Stores.{sets-append, sets-before, sets-past, sets-at}
 use Rattle.grid.specs.Grid.{listOf, atStart, Stored}
 use Rattle.grid.proofs.GridLaws.{length-list, list-at}
 
@@ -41,34 +41,17 @@ stored-next {at = at} {i = i} f p e =
 
 -- ---- the floats after a store
 
-sets-before : (fs l : List Float) (at j : ℕ) → j < at → getD (sets l at fs) j nan ≡ getD l j nan
-sets-before [] l at j h = refl
-sets-before (x ∷ fs) l at j h = sets-before fs (set l at x) (suc at) j (omega arith) ∙ getD-set-other l at j x nan (λ e. omega arith)
-
-sets-past : (fs l : List Float) (at j : ℕ) → at + length fs ≤ j → getD (sets l at fs) j nan ≡ getD l j nan
-sets-past [] l at j h = refl
-sets-past (x ∷ fs) l at j h = sets-past fs (set l at x) (suc at) j (omega arith) ∙ getD-set-other l at j x nan (λ e. omega arith)
-
-sets-at : (fs l : List Float) (at i : ℕ) → at + length fs ≤ length l → i < length fs → getD (sets l at fs) (at + i) nan ≡ getD fs i nan
-sets-at [] l at i room h = absurd (not-suc-le-zero h)
-sets-at (x ∷ fs) l at zero room h =
-    let e : at + 0 ≡ at = omega arith in
-    rw e (sets-before fs (set l at x) (suc at) at (omega arith) ∙ getD-set-same l at x nan (omega arith))
-sets-at (x ∷ fs) l at (suc i) room h =
-    let e : at + suc i ≡ suc at + i = omega arith in
-    rw e (sets-at fs (set l at x) (suc at) i (omega (arith, length-set l at x)) (omega arith))
-
 module _ {a b : List Float} {at : ℕ} {fs : List Float} (p : Stored a b at fs) where
   -- what is stored
   pub stored-at : (i : ℕ) → at + length fs ≤ length a → i < length fs → getD b (at + i) nan ≡ getD fs i nan
-  stored-at i room h = ap (λ (l : List Float). getD l (at + i) nan) (p .floats) ∙ sets-at fs a at i room h
+  stored-at i room h = ap (λ (l : List Float). getD l (at + i) nan) (p .floats) ∙ sets-at fs a at i nan room h
 
   -- what lies before it and past it is kept
   pub stored-before : (j : ℕ) → j < at → getD b j nan ≡ getD a j nan
-  stored-before j h = ap (λ (l : List Float). getD l j nan) (p .floats) ∙ sets-before fs a at j h
+  stored-before j h = ap (λ (l : List Float). getD l j nan) (p .floats) ∙ sets-before fs a at j nan h
 
   pub stored-past : (j : ℕ) → at + length fs ≤ j → getD b j nan ≡ getD a j nan
-  stored-past j h = ap (λ (l : List Float). getD l j nan) (p .floats) ∙ sets-past fs a at j h
+  stored-past j h = ap (λ (l : List Float). getD l j nan) (p .floats) ∙ sets-past fs a at j nan h
 
 -- where what f gives is being stored, the floats after the first i are as before
 pub stored-rest : {out out' : List Float} {at i : ℕ} (f : ℕ → Float) → Stored out out' at (listOf f i) → (j : ℕ) → i ≤ j → getD out' (at + j) nan ≡ getD out (at + j) nan
@@ -85,16 +68,16 @@ stored-self {out} {at} f n room same = record { floats = ext-getD nan out (sets 
     within : (j : ℕ) → at ≤ j → j < at + n → getD out j nan ≡ getD (sets out at (listOf f n)) j nan
     within j h less =
         let place : j ≡ at + (j - at) = omega arith in
-        rw place (same (j - at) (omega arith) ∙ sym (sets-at (listOf f n) out at (j - at) (omega (arith, length-list f n)) (omega (arith, length-list f n)) ∙ list-at f n (j - at) (omega arith)))
+        rw place (same (j - at) (omega arith) ∙ sym (sets-at (listOf f n) out at (j - at) nan (omega (arith, length-list f n)) (omega (arith, length-list f n)) ∙ list-at f n (j - at) (omega arith)))
 
     each : (j : ℕ) → j < length out → getD out j nan ≡ getD (sets out at (listOf f n)) j nan
     each j h =
         ⊎-elim
         (λ z. ⊎-elim
-        (λ y. sym (sets-past (listOf f n) out at j (omega (arith, length-list f n))))
+        (λ y. sym (sets-past (listOf f n) out at j nan (omega (arith, length-list f n))))
         (λ y. within j (omega arith) (omega arith))
         (eq-zero-or-pos (at + n - j)))
-        (λ z. sym (sets-before (listOf f n) out at j (omega arith)))
+        (λ z. sym (sets-before (listOf f n) out at j nan (omega arith)))
         (eq-zero-or-pos (at - j))
 
 -- what is stored over a store of the same place and length
@@ -106,16 +89,16 @@ stored-again {a} {b} {c} {at} {fs} {gs} p q e room = record {
     within : (j : ℕ) → at ≤ j → j < at + length gs → getD c j nan ≡ getD (sets a at gs) j nan
     within j h less =
         let place : j ≡ at + (j - at) = omega arith in
-        rw place (stored-at q (j - at) (omega (arith, stored-length p)) (omega arith) ∙ sym (sets-at gs a at (j - at) room (omega arith)))
+        rw place (stored-at q (j - at) (omega (arith, stored-length p)) (omega arith) ∙ sym (sets-at gs a at (j - at) nan room (omega arith)))
 
     same : (j : ℕ) → j < length c → getD c j nan ≡ getD (sets a at gs) j nan
     same j h =
         ⊎-elim
         (λ z. ⊎-elim
-        (λ y. stored-past q j (omega arith) ∙ stored-past p j (omega arith) ∙ sym (sets-past gs a at j (omega arith)))
+        (λ y. stored-past q j (omega arith) ∙ stored-past p j (omega arith) ∙ sym (sets-past gs a at j nan (omega arith)))
         (λ y. within j (omega arith) (omega arith))
         (eq-zero-or-pos (at + length gs - j)))
-        (λ z. stored-before q j (omega arith) ∙ stored-before p j (omega arith) ∙ sym (sets-before gs a at j (omega arith)))
+        (λ z. stored-before q j (omega arith) ∙ stored-before p j (omega arith) ∙ sym (sets-before gs a at j nan (omega arith)))
         (eq-zero-or-pos (at - j))
 
 -- ---- floats at the start of a buffer

@@ -12,6 +12,7 @@ use Rattle.words.proofs.put_bytes as put-bytes
 use Rattle.words.proofs.put_half as put-half
 use Rattle.words.proofs.put_word as put-word
 use Rattle.words.proofs.put_float as put-float
+use Rattle.words.proofs.put_first as put-first
 use Rattle.words.proofs.word_from as word-from
 use Rattle.words.proofs.float_from as float-from
 use Rattle.words.proofs.read_floats as read-floats
@@ -46,6 +47,9 @@ module _ {M : Type 1} (𝓤 : URA M) (H : Heap 𝓤) (A : Atoms 𝓤) (mem : Mem
 
   pub put-float-settled : Settles 𝓤 put-float.ended (put-float.clauses 𝓤 H A mem run)
   put-float-settled κs a g g' r r' ws ws' = one-value 𝓤 _ _ _ (λ x. tt) (λ x. (x, untouched 2 tt))
+
+  pub put-first-settled : Settles 𝓤 put-first.ended (put-first.clauses 𝓤 H A mem run)
+  put-first-settled κs a g g' r r' ws ws' = one-value 𝓤 _ _ _ (λ x. tt) (λ x. (x, untouched 3 tt))
 
   pub word-from-settled : Settles 𝓤 word-from.ended (word-from.clauses 𝓤 H A mem run)
   word-from-settled κs a g g' r r' ws ws' = one-answer 𝓤 _

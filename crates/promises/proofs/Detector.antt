@@ -28,6 +28,12 @@ use Rattle.tiles.proofs.start_of as start-of
 use Rattle.tiles.proofs.length_of as length-of
 use Rattle.scene_checks.proofs.checked as scene-checked
 use Rattle.scene.proofs.scene as scene
+use Rattle.desks.proofs.table.is_runnable as is-runnable
+use Rattle.desks.proofs.table.set_in as set-in
+use Rattle.desks.proofs.claim as claim
+use Rattle.desks.proofs.write as write
+use Rattle.desks.proofs.release as release
+use Rattle.desk_run.proofs.run as desk-run
 use Rattle.join.proofs.join as join
 use Rattle.join.proofs.join_old as join-old
 use Rattle.size.proofs.correct as correct
@@ -133,6 +139,26 @@ module _ {M : Type 1} (𝓤 : URA M) (H : Heap 𝓤) (A : Atoms 𝓤) (mem : Mem
   -- a scene's answer, the four tile slices and the output
   pub scene-settled : Settles 𝓤 scene.ended (scene.clauses 𝓤 H A mem run)
   scene-settled κs a g g' r r' ws ws' = one-value 𝓤 _ _ _ (λ x. x .answer) (λ x. untouched 9 (x .t0, (x .t1, (x .t2, (x .t3, (x .out, tt))))))
+
+  -- ---- the desks' table: a call's answer and the whole table; a run's answer and the output
+
+  pub is-runnable-settled : Settles 𝓤 is-runnable.ended (is-runnable.clauses 𝓤 H A mem run)
+  is-runnable-settled κs a g g' r r' ws ws' = one-answer 𝓤 _
+
+  pub set-in-settled : Settles 𝓤 set-in.ended (set-in.clauses 𝓤 H A mem run)
+  set-in-settled κs a g g' r r' ws ws' = one-answer 𝓤 _
+
+  pub claim-settled : Settles 𝓤 claim.ended (claim.clauses 𝓤 H A mem run)
+  claim-settled κs a g g' r r' ws ws' = one-value 𝓤 _ _ _ (λ x. x .answer) (λ x. (x .table, untouched 2 tt))
+
+  pub write-settled : Settles 𝓤 write.ended (write.clauses 𝓤 H A mem run)
+  write-settled κs a g g' r r' ws ws' = one-value 𝓤 _ _ _ (λ x. x .answer) (λ x. (x .table, untouched 3 tt))
+
+  pub release-settled : Settles 𝓤 release.ended (release.clauses 𝓤 H A mem run)
+  release-settled κs a g g' r r' ws ws' = one-value 𝓤 _ _ _ (λ x. x .answer) (λ x. (x .table, untouched 2 tt))
+
+  pub run-settled : Settles 𝓤 desk-run.ended (desk-run.clauses 𝓤 H A mem run)
+  run-settled κs a g g' r r' ws ws' = one-value 𝓤 _ _ _ (λ x. x .answer) (λ x. untouched 10 (x .buffer, tt))
 
   -- ---- a level and its view
 

@@ -17,6 +17,10 @@ use Rattle.alp_c.proofs.uramsheg_set_check as uramsheg-set-check
 use Rattle.alp_c.proofs.uramsheg_feed_start as uramsheg-feed-start
 use Rattle.alp_c.proofs.uramsheg_feed_column as uramsheg-feed-column
 use Rattle.alp_c.proofs.uramsheg_scene as uramsheg-scene
+use Rattle.alp_c.proofs.uramsheg_desk_claim as uramsheg-desk-claim
+use Rattle.alp_c.proofs.uramsheg_desk_write as uramsheg-desk-write
+use Rattle.alp_c.proofs.uramsheg_desk_release as uramsheg-desk-release
+use Rattle.alp_c.proofs.uramsheg_desk_run as uramsheg-desk-run
 use Rattle.promises.specs.Settles.{Settles}
 use Rattle.promises.proofs.Facts.{one-value, one-answer, untouched}
 
@@ -55,3 +59,15 @@ module _ {M : Type 1} (𝓤 : URA M) (H : Heap 𝓤) (A : Atoms 𝓤) (mem : Mem
   pub uramsheg-scene-settled : Settles 𝓤 uramsheg-scene.ended (uramsheg-scene.clauses 𝓤 H A mem run)
   uramsheg-scene-settled κs a g g' r r' ws ws' =
       one-value 𝓤 _ _ _ (λ x. x .number) (λ x. untouched 13 (x .t0, (x .t1, (x .t2, (x .t3, (x .out, (x .value, tt)))))))
+
+  pub uramsheg-desk-claim-settled : Settles 𝓤 uramsheg-desk-claim.ended (uramsheg-desk-claim.clauses 𝓤 H A mem run)
+  uramsheg-desk-claim-settled κs a g g' r r' ws ws' = one-value 𝓤 _ _ _ (λ x. x .number) (λ x. (x .table, untouched 2 tt))
+
+  pub uramsheg-desk-write-settled : Settles 𝓤 uramsheg-desk-write.ended (uramsheg-desk-write.clauses 𝓤 H A mem run)
+  uramsheg-desk-write-settled κs a g g' r r' ws ws' = one-value 𝓤 _ _ _ (λ x. x .number) (λ x. (x .table, untouched 3 tt))
+
+  pub uramsheg-desk-release-settled : Settles 𝓤 uramsheg-desk-release.ended (uramsheg-desk-release.clauses 𝓤 H A mem run)
+  uramsheg-desk-release-settled κs a g g' r r' ws ws' = one-value 𝓤 _ _ _ (λ x. x .number) (λ x. (x .table, untouched 2 tt))
+
+  pub uramsheg-desk-run-settled : Settles 𝓤 uramsheg-desk-run.ended (uramsheg-desk-run.clauses 𝓤 H A mem run)
+  uramsheg-desk-run-settled κs a g g' r r' ws ws' = one-value 𝓤 _ _ _ (λ x. x .number) (λ x. untouched 14 (x .buffer, (x .value, tt)))

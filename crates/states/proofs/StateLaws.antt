@@ -1,16 +1,16 @@
 -- A state's bytes, written and read back. Assumes nothing.
 use Prim.Native.Nat.{ℕ, zero, suc, _+_, _*_, _^_, _≤_, _<_}
-use native.Mathlib.Numerals.{add-one}
 use native.Mathlib.Omega.{arith}
-use mathlib.Core.Path.{_≡_, refl, sym, _∙_}
+use mathlib.Core.Path.{_≡_, refl, sym, ap, _∙_}
+use mathlib.Core.Logic.{inl}
 use mathlib.Core.List.{List, [], _∷_, _++_, append-assoc}
 use lib.Dec.{T}
 use lib.ListN.{length, getD, set, take, drop, length-append, length-drop, List·getD-append}
-use lib.Seq.{sets, sets-eq, length-sets, length-take-le, ext-getD, getD-take, getD-drop, getD-append-add, getD-set-other, take-suc}
-use lib.Ieee.{Float, binary32, fits}
+use lib.Seq.{sets, sets-eq, length-sets, length-take-le, ext-getD, getD-take, getD-drop, getD-append-add}
+use lib.Ieee.{Float, binary32, fits, ofBits}
 use Rattle.words.specs.Words.{wordBytes, floatBytes, wordFrom, floatFrom, floatsAt}
-use Rattle.words.proofs.Stores.{sets-append}
-use Rattle.words.proofs.WordsLaws.{length-wordBytes, length-floatBytes, wordFrom-append, floatFrom-append, wordFrom-wordBytes, floatFrom-floatBytes}
+use Rattle.words.proofs.Stores.{sets-append, sets-before, sets-past}
+use Rattle.words.proofs.WordsLaws.{length-wordBytes, length-floatBytes, wordFrom-append, floatFrom-append, wordFrom-wordBytes, floatFrom-floatBytes, word-kept, word-own}
 use Rattle.tables.specs.declared.Thresholds.{Thresholds}
 use Rattle.tables.specs.Set.{setOf}
 use Rattle.feed.specs.Feed.{opened, next}
@@ -21,12 +21,6 @@ use Rattle.states.specs.Bytes.{stateWidth, stateOf, thresholdsBytes, num
 -- two parts, one after the other
 pub in-two : (l a b : List ℕ) (i j : ℕ) → i + length a ≡ j → sets (sets l i a) j b ≡ sets l i (a ++ b)
 in-two l a b i j e = rw (← e) (sym (sets-append a b l i))
-
--- one byte more
-pub stored-byte : (l s : List ℕ) (i : ℕ) → i < length s → set (sets l 0 (take i s)) i (getD s i 0) ≡ sets l 0 (take (i + 1) s)
-stored-byte l s i h =
-    let n : 0 + length (take i s) ≡ i = omega (arith, length-take-le i s (omega arith)) in
-    rw (add-one, take-suc s i 0 h, sets-append (take i s) (getD s i 0 ∷ []) l 0, n)
 
 -- the thresholds
 pub thresholds-parts : (l : List ℕ) (th : Thresholds)
@@ -189,32 +183,19 @@ module _ (th : Thresholds) (rows cols octave : ℕ) (rest : List ℕ) (f : Fits 
 
 -- ---- one column more
 
-sets-before : (vs l : List ℕ) (i k : ℕ) → k < i → getD (sets l i vs) k 0 ≡ getD l k 0
-sets-before [] l i k h = refl
-sets-before (v ∷ vs) l i k h = sets-before vs (set l i v) (suc i) k (omega arith) ∙ getD-set-other l i k v 0 (λ e. omega arith)
-
-sets-past : (vs l : List ℕ) (i k : ℕ) → i + length vs ≤ k → getD (sets l i vs) k 0 ≡ getD l k 0
-sets-past [] l i k h = refl
-sets-past (v ∷ vs) l i k h = sets-past vs (set l i v) (suc i) k (omega arith) ∙ getD-set-other l i k v 0 (λ e. omega arith)
-
 module _ (b : List ℕ) (v : ℕ) (long : stateWidth ≤ length b) where
   abbrev moved : List ℕ
   moved = sets b 556 (wordBytes v)
 
   same : (k : ℕ) → k < 556 → getD moved k 0 ≡ getD b k 0
-  same k h = sets-before (wordBytes v) b 556 k h
+  same k h = sets-before (wordBytes v) b 556 k 0 h
 
-  float-kept : (i : ℕ) → i + 4 ≤ 556 → floatFrom moved i ≡ floatFrom b i
-  unfolding floatFrom wordFrom
-  float-kept i h = rw (same i (omega arith), same (i + 1) (omega arith), same (i + 2) (omega arith), same (i + 3) (omega arith))
+  word-before : (i : ℕ) → i + 4 ≤ 556 → wordFrom moved i ≡ wordFrom b i
+  word-before i h = word-kept (wordBytes v) b 556 i (inl h)
 
-  word-kept : (i : ℕ) → i + 4 ≤ 556 → wordFrom moved i ≡ wordFrom b i
-  unfolding wordFrom
-  word-kept i h = rw (same i (omega arith), same (i + 1) (omega arith), same (i + 2) (omega arith), same (i + 3) (omega arith))
-
-  position-moved : v < 2 ^ 32 → wordFrom moved 556 ≡ v
-  position-moved h =
-      rw (sets-eq (wordBytes v) b 556 (omega (arith, length-wordBytes v)), append-assoc (take 556 b)) (word-behind (take 556 b) (drop (556 + length (wordBytes v)) b) v 556 (length-take-le 556 b (omega arith)) h)
+  float-before : (i : ℕ) → i + 4 ≤ 556 → floatFrom moved i ≡ floatFrom b i
+  unfolding floatFrom
+  float-before i h = ap (ofBits binary32) (word-before i h)
 
   -- where v is one more than its position, the state is the next
   pub moved-next : v ≡ wordFrom b 556 + 1 → v < 2 ^ 32 → stateOf moved ≡ next (stateOf b)
@@ -223,15 +204,15 @@ module _ (b : List ℕ) (v : ℕ) (long : stateWidth ≤ length b) where
       let whole : length moved ≡ length b = length-sets b 556 (wordBytes v) in
       rw (
         set-same moved b (omega arith) (omega arith) (λ k less. same k (omega arith)),
-        float-kept 528 (omega arith),
-        float-kept 532 (omega arith),
-        float-kept 536 (omega arith),
-        float-kept 540 (omega arith),
-        float-kept 544 (omega arith),
-        word-kept 548 (omega arith),
-        word-kept 552 (omega arith),
-        position-moved h ∙ e,
-        sets-past (wordBytes v) b 556 560 (omega (arith, length-wordBytes v)),
+        float-before 528 (omega arith),
+        float-before 532 (omega arith),
+        float-before 536 (omega arith),
+        float-before 540 (omega arith),
+        float-before 544 (omega arith),
+        word-before 548 (omega arith),
+        word-before 552 (omega arith),
+        word-own v b 556 h (omega arith) ∙ e,
+        sets-past (wordBytes v) b 556 560 0 (omega (arith, length-wordBytes v)),
       )
 
 -- ---- in a buffer

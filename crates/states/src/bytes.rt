@@ -9,6 +9,7 @@ use ring::State;
 use tables::Thresholds;
 use words::float_from;
 use words::put_bytes;
+use words::put_first;
 use words::put_float;
 use words::put_word;
 use words::word_from;
@@ -54,18 +55,6 @@ pub fn advance(state: &mut [u8])
     put_word(state, 556, n + 1);
 }
 
-// The set record at the buffer's start.
-fn put_set(set: &[u8], state: &mut [u8])
-    requires { ⌜ length (now set) ≤ length (now state) ⌝ }
-    ensures { λ _. ⌜ now (state .exit) ≡ sets (now (state .entry)) 0 (now (set .entry)) ⌝ }
-{
-    let mut i: usize = 0;
-    while i < set.len() {
-        state[i] = set[i];
-        i += 1;
-    }
-}
-
 // The thresholds at their places.
 fn put_thresholds(th: Thresholds, state: &mut [u8])
     requires { ⌜ 564 ≤ length (now state) ⌝ }
@@ -103,7 +92,7 @@ pub fn write_state(
     requires { ⌜ octave ≤ 5 ⌝ }
     ensures { λ _. ⌜ now (state .exit) ≡ sets (now (state .entry)) 0 (openedBytes (now (set .entry)) th rows cols octave) ⌝ }
 {
-    put_set(set, state);
+    put_first(state, 0, set, 528);
     put_thresholds(th, state);
     put_numbers(rows as u32, cols as u32, octave as u8, state);
 }

@@ -49,6 +49,8 @@ pub enum Refusal {
     Thresholds,
     Past,
     Scene,
+    NotYours,
+    Count,
 }
 
 // The outcome of a check.

@@ -29,6 +29,8 @@ pub fn number_of(why: Refusal) -> u32
         Refusal::Thresholds => 8,
         Refusal::Past => 9,
         Refusal::Scene => 10,
+        Refusal::NotYours => 11,
+        Refusal::Count => 12,
     }
 }
 
@@ -47,5 +49,7 @@ pub fn value_of(why: Refusal) -> u64
         Refusal::Thresholds => 0,
         Refusal::Past => 0,
         Refusal::Scene => 0,
+        Refusal::NotYours => 0,
+        Refusal::Count => 0,
     }
 }

@@ -1,7 +1,7 @@
 // A tile's spot list: found into the room held and, where that is too small for it, found again into its place.
 ghost use mathlib.Core.Path.{_≡_};
 ghost use Prim.Native.Nat.{_+_, _*_, _≤_};
-ghost use lib.ListN.{length, take};
+ghost use lib.ListN.{length};
 ghost use lib.Seq.{sets};
 ghost use Rattle.record.specs.Layout.{spotWidth, bytesOf};
 ghost use Rattle.tile.specs.Tile.{Small, foundIn, Holds};
@@ -34,19 +34,6 @@ pub fn found<'a>(
     match told {
         Answer::Found(n) => n,
         Answer::Refused(_) => 0,
-    }
-}
-
-// The first n bytes of a list go to the bytes from at on.
-fn copy_list(list: &[u8], n: usize, out: &mut [u8], at: usize)
-    requires { ⌜ n ≤ length (now list) ⌝ }
-    requires { ⌜ at + n ≤ length (now out) ⌝ }
-    ensures { λ _. ⌜ now (out .exit) ≡ sets (now (out .entry)) at (take n (now (list .entry))) ⌝ }
-{
-    let mut k: usize = 0;
-    while k < n {
-        out[at + k] = list[k];
-        k += 1;
     }
 }
 
@@ -102,5 +89,5 @@ pub fn lay<'a>(
         find_again(set, th, h, w, octave, t0, t1, t2, t3, out, at, n);
         return;
     }
-    copy_list(held, n * SPOT_WIDTH, out, at);
+    words::put_first(out, at, held, n * SPOT_WIDTH);
 }

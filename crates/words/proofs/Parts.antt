@@ -5,7 +5,7 @@ use native.Mathlib.Omega.{arith}
 use mathlib.Core.Path.{_≡_, refl, sym, ap, _∙_}
 use mathlib.Core.List.{List, [], _∷_, _++_, append-assoc}
 use lib.ListN.{length, take, drop, set, getD, length-append, length-drop}
-use lib.Seq.{sets, length-sets, sets-eq, take-suc, length-take-le, getD-drop, take-at, take-append-le, take-take, drop-append-add, drop-drop, take-suc-set}
+use lib.Seq.{sets, length-sets, sets-eq, take-suc, length-take-le, getD-drop, take-at, drop-at, take-append-le, take-take, drop-append-add, drop-drop, take-suc-set}
 use borrow.Rule.Slice.PartMut.{putMid}
 use Rattle.words.proofs.Stores.{sets-append}
 
@@ -77,3 +77,10 @@ sets-over out vs us p q h g k m =
     ∙ ap (λ x. x ++ us ++ drop (q + length us) (sets out p vs)) (take-below out vs p q h k)
     ∙ ap (λ x. take q out ++ us ++ x) (drop-sets out vs p (q + length us) h m)
     ∙ sym (sets-eq us out q g)
+
+-- and what is stored is read back
+pub part-own : {A : Type 0} (vs l : List A) (at n : ℕ) → n ≡ length vs → at + n ≤ length l → take n (drop at (sets l at vs)) ≡ vs
+part-own vs l at n e h =
+    let front : length (take at l) ≡ at = length-take-le at l (omega arith) in
+    rw (sets-eq vs l at (omega arith), append-assoc (take at l) vs (drop (at + length vs) l), drop-at (take at l) (vs ++ drop (at + length vs) l) at front)
+    (take-at vs (drop (at + length vs) l) n (sym e))

@@ -1,15 +1,17 @@
 -- Laws of a word's and a float's bytes: how many they are, and that what is written is read back. Assumes nothing.
-use Prim.Native.Nat.{ℕ, zero, suc, _+_, _*_, _/_, _%_, _^_, _<_}
+use Prim.Native.Nat.{ℕ, zero, suc, _+_, _*_, _/_, _%_, _^_, _≤_, _<_}
 use native.Mathlib.Nat.{add-assoc, div-div-eq-div-mul, mod-eq-of-lt}
 use native.Mathlib.Omega.{arith}
-use mathlib.Core.Path.{_≡_, refl, ap, _∙_}
-use mathlib.Core.List.{List, [], _∷_, _++_}
-use lib.ListN.{length}
-use lib.Seq.{getD-append-add}
+use mathlib.Core.Path.{_≡_, refl, sym, ap, _∙_}
+use mathlib.Core.Logic.{_⊎_, inl, inr}
+use mathlib.Core.List.{List, [], _∷_, _++_, append-assoc}
+use lib.ListN.{length, getD, take, drop}
+use lib.Seq.{getD-append-add, sets, sets-eq, length-take-le}
 use lib.Dec.{T}
 use lib.Ieee.{Float, binary32, fits, ofBits, toBits}
 use lib.Ieee.Bits.{ofBits-toBits, toBits-lt}
 use Rattle.words.specs.Words.{wordBytes, halfBytes, floatBytes, wordFrom, floatFrom, floatsAt}
+use Rattle.words.proofs.Stores.{sets-before, sets-past}
 
 -- ---- lengths
 
@@ -77,3 +79,29 @@ wordFrom-wordBytes v rest h = four-digits v h
 pub floatFrom-floatBytes : (x : Float) (rest : List ℕ) → T (fits binary32 x) → floatFrom (floatBytes x ++ rest) 0 ≡ x
 unfolding floatFrom floatBytes
 floatFrom-floatBytes x rest f = ap (ofBits binary32) (wordFrom-wordBytes (toBits binary32 x) rest (toBits-lt binary32 x f)) ∙ ofBits-toBits binary32 x f
+
+-- ---- a word after a run of stores
+
+-- one that it does not reach is kept
+pub word-kept : (vs l : List ℕ) (at from : ℕ) → (from + 4 ≤ at) ⊎ (at + length vs ≤ from) → wordFrom (sets l at vs) from ≡ wordFrom l from
+unfolding wordFrom
+word-kept vs l at from h =
+    let first : from + 0 ≡ from = omega arith in
+    let byte : (i : ℕ) → i < 4 → getD (sets l at vs) (from + i) 0 ≡ getD l (from + i) 0 = (λ i less. outside i less h) in
+    rw (rw first at (byte 0 (omega arith)), byte 1 (omega arith), byte 2 (omega arith), byte 3 (omega arith))
+  where
+    outside : (i : ℕ) → i < 4 → (from + 4 ≤ at) ⊎ (at + length vs ≤ from) → getD (sets l at vs) (from + i) 0 ≡ getD l (from + i) 0
+    outside i less (inl g) = sets-before vs l at (from + i) 0 (omega arith)
+    outside i less (inr g) = sets-past vs l at (from + i) 0 (omega arith)
+
+-- one that is stored is read back
+pub word-own : (v : ℕ) (l : List ℕ) (at : ℕ) → v < 2 ^ 32 → at + 4 ≤ length l → wordFrom (sets l at (wordBytes v)) at ≡ v
+word-own v l at small h =
+    let vs : List ℕ = wordBytes v in
+    let four : length vs ≡ 4 = length-wordBytes v in
+    let rest : List ℕ = drop (at + length vs) l in
+    let front : length (take at l) + 0 ≡ at = omega (arith, length-take-le at l (omega arith)) in
+    ap (λ (b : List ℕ). wordFrom b at) (sets-eq vs l at (omega arith) ∙ append-assoc (take at l) vs rest)
+    ∙ ap (wordFrom (take at l ++ (vs ++ rest))) (sym front)
+    ∙ wordFrom-append (take at l) (vs ++ rest) 0
+    ∙ wordFrom-wordBytes v rest small

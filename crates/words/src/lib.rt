@@ -2,7 +2,7 @@
 ghost use mathlib.Core.Path.{_≡_};
 ghost use mathlib.Core.List.{[], _∷_};
 ghost use Prim.Native.Nat.{_+_, _*_, _^_, _<_, _≤_};
-ghost use lib.ListN.{length};
+ghost use lib.ListN.{length, take};
 ghost use lib.Seq.{sets};
 ghost use lib.Ieee.{binary32, toBits, ofBits};
 ghost use Rattle.words.specs.Words.{wordBytes, halfBytes, floatBytes, wordFrom, floatFrom, floatsAt};
@@ -69,6 +69,19 @@ pub fn put_float(out: &mut [u8], at: usize, x: f32)
     ensures { λ _. ⌜ now (out .exit) ≡ sets (now (out .entry)) at (floatBytes x) ⌝ }
 {
     put_word(out, at, bits(x));
+}
+
+// The first n bytes of s from the byte at on.
+pub fn put_first(out: &mut [u8], at: usize, s: &[u8], n: usize)
+    requires { ⌜ n ≤ length (now s) ⌝ }
+    requires { ⌜ at + n ≤ length (now out) ⌝ }
+    ensures { λ _. ⌜ now (out .exit) ≡ sets (now (out .entry)) at (take n (now (s .entry))) ⌝ }
+{
+    let mut k: usize = 0;
+    while k < n {
+        out[at + k] = s[k];
+        k += 1;
+    }
 }
 
 // ---- reading

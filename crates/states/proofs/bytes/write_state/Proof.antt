@@ -1,11 +1,13 @@
 -- `bytes::write_state` meets its contract.
+use native.Mathlib.Omega.{arith}
+use lib.Seq.{take-all}
 use Rattle.states.proofs.StateLaws.{opened-parts}
 use borrow.Author.Needs.{needs}
 use Rattle.states.proofs.bytes.write_state.Statement.{statement}
 use Rattle.states.proofs.bytes.write_state.Tie as tie
 
-put-set-requires : tie.Need-put-set-requires
-put-set-requires c κs = search needs
+put-first-requires : tie.Need-put-first-requires
+put-first-requires c κs = search needs
 
 put-thresholds-requires : tie.Need-put-thresholds-requires
 put-thresholds-requires c κs = search needs
@@ -28,13 +30,13 @@ same-length c = search needs
 returns : tie.Need-returns
 returns c =
     let a = c .before .before .before .before .before .before .before .before .before .before .before .before .before .before .args in
-    rw (c .before .before .put-numbers .ensures, c .before .before .before .before .before .before .put-thresholds .ensures, c .before .before .before .before .before .before .before .before .before .before .put-set .ensures) (opened-parts (a .state .now) (a .set .now) (a .th) (a .rows) (a .cols) (a .octave) (c .before .before .before .before .before .before .before .before .before .before .before .before .before .before .pre .0 .0))
+    rw (c .before .before .put-numbers .ensures, c .before .before .before .before .before .before .put-thresholds .ensures, c .before .before .before .before .before .before .before .before .before .before .put-first .ensures, take-all 528 (a .set .now) (omega (arith, c .before .before .before .before .before .before .before .before .before .before .before .before .before .before .pre .0 .0))) (opened-parts (a .state .now) (a .set .now) (a .th) (a .rows) (a .cols) (a .octave) (c .before .before .before .before .before .before .before .before .before .before .before .before .before .before .pre .0 .0))
 
 pub write-state-spec : {M : Type 1} → statement M
 write-state-spec =
     tie.close
     (tie.spec
-    put-set-requires
+    put-first-requires
     put-thresholds-requires
     cast-put-numbers
     cast-put-numbers-2

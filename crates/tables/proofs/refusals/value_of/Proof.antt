@@ -40,6 +40,12 @@ enum-told-7 c = search needs
 enum-told-8 : tie.Need-enum-told-8
 enum-told-8 c = search needs
 
+enum-told-9 : tie.Need-enum-told-9
+enum-told-9 c = search needs
+
+enum-told-10 : tie.Need-enum-told-10
+enum-told-10 c = search needs
+
 returns : tie.Need-returns
 unfolding value
 returns c = rw (c .before .why .given .1)
@@ -80,6 +86,14 @@ returns-10 : tie.Need-returns-10
 unfolding value
 returns-10 c = rw (c .enum-told8 .given .1)
 
+returns-11 : tie.Need-returns-11
+unfolding value
+returns-11 c = rw (c .enum-told9 .given .1)
+
+returns-12 : tie.Need-returns-12
+unfolding value
+returns-12 c = rw (c .enum-told10 .given .1)
+
 pub value-of-spec : {M : Type 1} → statement M
 value-of-spec =
     tie.close
@@ -96,6 +110,8 @@ value-of-spec =
     enum-told-6
     enum-told-7
     enum-told-8
+    enum-told-9
+    enum-told-10
     returns
     returns-2
     returns-3
@@ -105,4 +121,6 @@ value-of-spec =
     returns-7
     returns-8
     returns-9
-    returns-10)
+    returns-10
+    returns-11
+    returns-12)

@@ -14,11 +14,11 @@ same-length c = search needs
 returns : tie.Need-returns
 returns c = search needs
 
-mul-copy-list : tie.Need-mul-copy-list
-mul-copy-list c = search needs
+mul-put-first : tie.Need-mul-put-first
+mul-put-first c = search needs
 
-copy-list-requires : tie.Need-copy-list-requires
-copy-list-requires c κs = search needs
+put-first-requires : tie.Need-put-first-requires
+put-first-requires c κs = search needs
 
 same-length-2 : tie.Need-same-length-2
 same-length-2 c = search needs
@@ -27,7 +27,7 @@ returns-2 : tie.Need-returns-2
 returns-2 c =
     let s = c .before .before .before .before .before .before .before .before .before .before .before in
     let holds = s .pre .1 .0 in
-    c .before .before .copy-list .ensures ∙ ap (sets (s .args .out .now) (s .args .at)) (holds .begins (c .before .before .before .before .if1 .left))
+    c .before .before .put-first .ensures ∙ ap (sets (s .args .out .now) (s .args .at)) (holds .begins (c .before .before .before .before .if1 .left))
 
 pub lay-spec : {M : Type 1} → statement M
 lay-spec =
@@ -36,7 +36,7 @@ lay-spec =
     find-again-requires
     same-length
     returns
-    mul-copy-list
-    copy-list-requires
+    mul-put-first
+    put-first-requires
     same-length-2
     returns-2)

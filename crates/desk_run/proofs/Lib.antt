@@ -1,0 +1,2 @@
+-- What a run is: detection with the set found, or 11.
+pub mod RunLaws

@@ -1,0 +1,2 @@
+-- A run of detection from a slot of the desks' table.
+pub mod Run

@@ -1,0 +1,2 @@
+-- What the desks' face leaves of an outcome.
+pub mod FaceLaws

@@ -1,0 +1,22 @@
+-- `write` meets its contract.
+use borrow.Author.Needs.{needs}
+use Rattle.face_desks.specs.Face.{callFace}
+use Rattle.face_desks.proofs.FaceLaws.{table-left-by}
+use Rattle.face_desks.proofs.write.Statement.{statement}
+use Rattle.face_desks.proofs.write.Tie as tie
+
+write-requires : tie.Need-write-requires
+write-requires c κs = search needs
+
+told-number-requires : tie.Need-told-number-requires
+told-number-requires c κs = search needs
+
+same-length : tie.Need-same-length
+same-length c = search needs
+
+returns : tie.Need-returns
+unfolding callFace
+returns c = table-left-by (c .told-number .ensures) (c .before .before .before .write .ensures)
+
+pub write-spec : {M : Type 1} → statement M
+write-spec = tie.close (tie.spec write-requires told-number-requires same-length returns)
