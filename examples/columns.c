@@ -5,6 +5,7 @@
 #include <stdio.h>
 
 #include "map.h"
+#include "refusal.h"
 #include "uramsheg.h"
 
 static float raw[MOST], level[4][MOST];
@@ -23,10 +24,7 @@ int main(int count, char **words) {
     read_map(map_file, raw, &rows, &cols);
     if (rows == 0) return fail("the map's lines are not all of one length, or are too many");
     uint32_t refused = uramsheg_levels(set, set_length, rows, cols, 0, raw, rows * cols, level[0], MOST, level[1], MOST, level[2], MOST, level[3], MOST);
-    if (refused) {
-        fprintf(stderr, "refused %u\n", (unsigned)refused);
-        return 1;
-    }
+    if (refused) return refuse(refused);
     fprintf(stderr, "%zu rows, %zu cols\n", rows, cols);
     for (size_t col = 0; col < cols; col++)
         for (int k = 0; k < 4; k++) /* a float lies in memory as in the stream: this machine is little-endian */

@@ -2,43 +2,20 @@
 #include <inttypes.h>
 #include <stdint.h>
 #include <stdio.h>
-#include <string.h>
 
+#include "map_m.h"
 #include "spot.h"
 #include "uramsheg.h"
 
-enum { ROWS = 9, COLS = 10 };
-
-static void put(uint8_t *record, int word, float x) {
-    memcpy(record + 4 * word, &x, 4); /* the record is little-endian, as this machine is */
-}
-
-/* Set T: sigmas 1 to 4, simple cubics, and a fit that moves a spot by a quarter of its centre's value. */
-static void set_t(uint8_t set[URAMSHEG_SET_BYTES]) {
-    static const float numbers[11] = {1, 0.5f, -4, 4, 0.5f, 16, 0.5f, 1, 0.125f, 0.5f, 1};
-    memset(set, 0, URAMSHEG_SET_BYTES);
-    for (int i = 0; i < 4; i++) put(set, i, (float)(i + 1));
-    for (int table = 4; table <= 16; table += 12)
-        for (int row = 1; row < 4; row++) put(set, table + 3 * row + row - 1, 1);
-    for (int block = 28; block <= 73; block += 45) {
-        put(set, block + 3, 1);
-        put(set, block + 9 + 5, 1);
-        put(set, block + 27 + 4, 0.25f);
-    }
-    for (int i = 0; i < 11; i++) put(set, 118 + i, numbers[i]);
-    for (int i = 0; i < 9; i++) set[516 + i] = (uint8_t)i;
-}
-
 int main(void) {
     uint8_t set[URAMSHEG_SET_BYTES], out[URAMSHEG_SPOT_BYTES * 4], sized[URAMSHEG_SIZED_BYTES * 4];
-    float level[4][ROWS * COLS] = {{0}}, corrected;
+    float level[4][PIXELS], corrected;
     uint64_t found = 0, value = 0, cause = 0;
 
     set_t(set);
-    level[0][4 * ROWS + 4] = 0.25f;
-    level[1][4 * ROWS + 4] = -0.25f;
+    map_m(level);
     uint32_t refused = uramsheg_detect(set, sizeof set, 1, 1, 10, 1.9027314f, 4.1498866f, ROWS, COLS, 0,
-                                       level[0], ROWS * COLS, level[1], ROWS * COLS, level[2], ROWS * COLS, level[3], ROWS * COLS,
+                                       level[0], PIXELS, level[1], PIXELS, level[2], PIXELS, level[3], PIXELS,
                                        out, sizeof out, &found);
     if (refused != URAMSHEG_DONE || found > 4) {
         printf("refused %" PRIu32 ", found %" PRIu64 "\n", refused, found);

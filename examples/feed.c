@@ -10,6 +10,7 @@
 #include <stdio.h>
 #include <stdlib.h>
 
+#include "refusal.h"
 #include "spot.h"
 #include "uramsheg.h"
 
@@ -24,25 +25,6 @@ static size_t room = 1;
 
 static int fail(const char *what) {
     fprintf(stderr, "%s\n", what);
-    return 1;
-}
-
-/* Why a call was refused, in words. */
-static const char *why(uint32_t refused) {
-    switch (refused) {
-    case URAMSHEG_REFUSED_SIZE: return "rows or cols above 4096: cut the map into tiles";
-    case URAMSHEG_REFUSED_LEVEL: return "a column is not rows long";
-    case URAMSHEG_REFUSED_OCTAVE: return "the octave is above 5";
-    case URAMSHEG_REFUSED_SET: return "the set record is not 528 bytes long or not good";
-    case URAMSHEG_REFUSED_ROOM: return "the ring, the state or the output is too short: lend a longer one";
-    case URAMSHEG_REFUSED_THRESHOLDS: return "a threshold is not a number";
-    case URAMSHEG_REFUSED_PAST: return "all columns of the feed have come: start another for the next map";
-    default: return "for a reason that this program does not know";
-    }
-}
-
-static int refuse(uint32_t refused) {
-    fprintf(stderr, "refused %" PRIu32 ": %s\n", refused, why(refused));
     return 1;
 }
 

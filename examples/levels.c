@@ -1,12 +1,12 @@
 /* From a raw map to sizes in C: `levels SET MAP.csv` makes the map's four levels under a set record and lists their spots. A line of the map is a row, its
  * numbers parted by commas; nan is a lost pixel. `./test` builds and runs it on examples/raw.csv. */
-#include <inttypes.h>
 #include <math.h>
 #include <stdint.h>
 #include <stdio.h>
 #include <stdlib.h>
 
 #include "map.h"
+#include "refusal.h"
 #include "spot.h"
 #include "uramsheg.h"
 
@@ -50,10 +50,7 @@ int main(int count, char **words) {
                                   level[2], pixels, level[3], pixels, out, sizeof out, &found);
     if (found > SPOTS) return fail("there are more spots than there is room for");
     if (!refused) refused = uramsheg_join(set, set_length, rows, cols, out, URAMSHEG_SPOT_BYTES * found, sized, sizeof sized, &value);
-    if (refused) {
-        fprintf(stderr, "refused %" PRIu32 "\n", refused);
-        return 1;
-    }
+    if (refused) return refuse(refused);
     for (uint64_t i = 0; i < value; i++) {
         const uint8_t *spot = sized + URAMSHEG_SIZED_BYTES * i;
         unsigned row = get_u16(spot, HOME_ROW), col = get_u16(spot, HOME_COL);

@@ -3,12 +3,12 @@
  *
  * The levels of a scene are its caller's. Here they are written down: a round blob of size s that is blurred by a sigma t is one of size sqrt(s * s + t * t),
  * and its height falls by the factor s * s / (s * s + t * t). */
-#include <inttypes.h>
 #include <math.h>
 #include <stdint.h>
 #include <stdio.h>
 #include <stdlib.h>
 
+#include "refusal.h"
 #include "spot.h"
 #include "uramsheg.h"
 
@@ -92,10 +92,7 @@ int main(int count, char **words) {
     for (int k = 0; k < 4; k++) make(level[k], get(set, k)); /* a set begins with its four sigmas */
     print_tiles();
     uint32_t refused = list(set, set_length, &value);
-    if (refused) {
-        fprintf(stderr, "refused %" PRIu32 "\n", refused);
-        return 1;
-    }
+    if (refused) return refuse(refused);
     for (uint64_t i = 0; i < value; i++) print(out + URAMSHEG_SCENE_BYTES * i);
     return 0;
 }

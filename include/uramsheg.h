@@ -28,7 +28,7 @@
  *
  * Lists from before there were deltas are of old spot records (40 bytes: the first 40 of a spot record); uramsheg_join_old sizes them.
  *
- * A worked case, map M: under the set that examples/detect.c builds, 9 rows by 10 cols, all 0 but pixel (4,4), 0.25 in level 0 and -0.25 in level 1,
+ * A worked case, map M: under the set that examples/map_m.h builds, 9 rows by 10 cols, all 0 but pixel (4,4), 0.25 in level 0 and -0.25 in level 1,
  * thresholds 1, 1, 10, window 1.9027314 to 4.1498866, octave 0, the list is the one record
  *   00009040000080400000004000008040000080bf0000804000000000000000002c000000000101000000003f00000000
  * examples/detect.c prints it with its move, half a pixel in x, its home pixel, (4,5), and its size.
