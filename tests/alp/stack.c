@@ -1,5 +1,5 @@
-/* From C: how many bytes of stack levels, detection, the feed and a scene take, each on a painted stack of its own. PROCESSOR and a set's file are given; says what
- * failed. */
+/* From C: how many bytes of stack levels, detection, the feed, a scene and a desk's run and write take, each on a painted stack of its own. PROCESSOR and a set's
+ * file are given; says what failed. */
 #define _XOPEN_SOURCE 700
 #include <math.h>
 #include <stdint.h>
@@ -12,7 +12,7 @@
 
 enum { SIDE = 300, LONGEST = 4096 };
 
-static uint8_t stack[1 << 20], set[URAMSHEG_SET_BYTES], list[URAMSHEG_SCENE_BYTES * SIDE * SIDE];
+static uint8_t stack[1 << 20], set[URAMSHEG_SET_BYTES], list[URAMSHEG_SCENE_BYTES * SIDE * SIDE], table[URAMSHEG_TABLE_BYTES];
 static float level[4][SIDE * SIDE];
 static bool is_done;
 static uint64_t spots, most;
@@ -30,6 +30,15 @@ static bool detected(float low, float high) {
     uint64_t found = 0;
     uint32_t number = uramsheg_detect(set, sizeof set, 0, 0, 12.1f, low, high, SIDE, SIDE, 0, level[0], SIDE * SIDE, level[1], SIDE * SIDE,
                                       level[2], SIDE * SIDE, level[3], SIDE * SIDE, list, sizeof list, &found);
+    spots += found;
+    return number == 0;
+}
+
+/* From the slot that `desk_write` wrote. */
+static bool run(float low, float high) {
+    uint64_t found = 0;
+    uint32_t number = uramsheg_desk_run(table, sizeof table, 3, 0, 0, 12.1f, low, high, SIDE, SIDE, 0, level[0], SIDE * SIDE, level[1], SIDE * SIDE,
+                                        level[2], SIDE * SIDE, level[3], SIDE * SIDE, list, sizeof list, &found);
     spots += found;
     return number == 0;
 }
@@ -81,6 +90,13 @@ static void detection(void) { noise(detected); }
 
 static void feed(void) { noise(fed); }
 
+/* The slot is claimed for it. */
+static void desk_write(void) {
+    is_done = !uramsheg_desk_claim(table, sizeof table, URAMSHEG_DESK_DAILY, 3) && !uramsheg_desk_write(table, sizeof table, URAMSHEG_DESK_DAILY, 3, set, sizeof set);
+}
+
+static void desk_run(void) { noise(run); }
+
 /* A tile of more than 2,730 spots is detected another way, so that one of them must have as many. */
 static void scene(void) {
     noise(cut);
@@ -116,5 +132,7 @@ int main(int count, char **words) {
     bool held = holds(words[1], "levels", levels, 51200);
     held = holds(words[1], "detection", detection, 262144) && held;
     held = holds(words[1], "the feed", feed, 65536) && held;
-    return !(holds(words[1], "a scene", scene, 393216) && held);
+    held = holds(words[1], "a scene", scene, 393216) && held;
+    held = holds(words[1], "a desk's write", desk_write, 8192) && held;
+    return !(holds(words[1], "a desk's run", desk_run, 262144) && held);
 }
