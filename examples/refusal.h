@@ -10,7 +10,7 @@ static inline const char *why(uint32_t refused) {
     case URAMSHEG_REFUSED_SIZE: return "rows or cols above 4096: cut the map into tiles";
     case URAMSHEG_REFUSED_LEVEL: return "a level or the raw map is not rows * cols long, or a column not rows";
     case URAMSHEG_REFUSED_OCTAVE: return "the octave is above 5";
-    case URAMSHEG_REFUSED_SET: return "the set record is not 528 bytes long or not good; a slot's is not before it is written";
+    case URAMSHEG_REFUSED_SET: return "the set record is not 528 bytes long or not good (a claimed slot has a good one only once it is written)";
     case URAMSHEG_REFUSED_RECORDS: return "the list is no whole number of records, or holds a bad one";
     case URAMSHEG_REFUSED_ROOM: return "a buffer is too short: lend a longer one";
     case URAMSHEG_REFUSED_NO_SIZE: return "the spot has no size";

@@ -167,6 +167,50 @@ pub mod raw {
             out_length: usize,
             value: *mut u64,
         ) -> u32;
+        pub fn uramsheg_desk_claim(
+            table: *mut u8,
+            table_length: usize,
+            desk: usize,
+            slot: usize,
+        ) -> u32;
+        pub fn uramsheg_desk_write(
+            table: *mut u8,
+            table_length: usize,
+            desk: usize,
+            slot: usize,
+            set: *const u8,
+            set_length: usize,
+        ) -> u32;
+        pub fn uramsheg_desk_release(
+            table: *mut u8,
+            table_length: usize,
+            desk: usize,
+            slot: usize,
+        ) -> u32;
+        pub fn uramsheg_desk_run(
+            table: *const u8,
+            table_length: usize,
+            slot: usize,
+            peak: f32,
+            sigma: f32,
+            ratio: f32,
+            low: f32,
+            high: f32,
+            rows: usize,
+            cols: usize,
+            octave: usize,
+            l0: *const f32,
+            l0_length: usize,
+            l1: *const f32,
+            l1_length: usize,
+            l2: *const f32,
+            l2_length: usize,
+            l3: *const f32,
+            l3_length: usize,
+            out: *mut u8,
+            out_length: usize,
+            value: *mut u64,
+        ) -> u32;
     }
 }
 
@@ -424,13 +468,15 @@ pub fn four_levels(
     made.map(|()| four)
 }
 
-/// The list's bytes, in as much room as the list needs.
-fn list(set: &[u8], thresholds: Thresholds, map: Map<'_>) -> Result<Vec<u8>, Refusal> {
+/// The bytes of the list that a detection gives, in as much room as the list needs.
+pub(crate) fn list(
+    mut detect: impl FnMut(&mut [u8]) -> Result<usize, Refusal>,
+) -> Result<Vec<u8>, Refusal> {
     let mut bytes = Vec::new();
     let mut room = 1024;
     loop {
         bytes.resize(room * SPOT_BYTES, 0);
-        let found = detect(set, thresholds, map, &mut bytes)?;
+        let found = detect(&mut bytes)?;
         if found <= room {
             bytes.truncate(found * SPOT_BYTES);
             return Ok(bytes);
@@ -439,10 +485,22 @@ fn list(set: &[u8], thresholds: Thresholds, map: Map<'_>) -> Result<Vec<u8>, Ref
     }
 }
 
+/// The spots of a list.
+pub(crate) fn read(list: &[u8]) -> Vec<Spot> {
+    list.as_chunks().0.iter().map(Spot::from_record).collect()
+}
+
+/// The spots of a list that was found on the map, each with its size.
+pub(crate) fn sized(set: &[u8], map: Map<'_>, list: &[u8]) -> Result<Vec<SizedSpot>, Refusal> {
+    let mut sized = vec![0; list.len() / SPOT_BYTES * SIZED_BYTES];
+    join(set, map.rows, map.cols, list, &mut sized)?;
+    let records = sized.as_chunks().0;
+    Ok(records.iter().map(SizedSpot::from_record).collect())
+}
+
 /// The map's spots.
 pub fn spots(set: &[u8], thresholds: Thresholds, map: Map<'_>) -> Result<Vec<Spot>, Refusal> {
-    let bytes = list(set, thresholds, map)?;
-    Ok(bytes.as_chunks().0.iter().map(Spot::from_record).collect())
+    list(|out| detect(set, thresholds, map, out)).map(|bytes| read(&bytes))
 }
 
 /// The map's spots, each with its size and its home pixel, the one nearest to its place.
@@ -451,13 +509,6 @@ pub fn sized_spots(
     thresholds: Thresholds,
     map: Map<'_>,
 ) -> Result<Vec<SizedSpot>, Refusal> {
-    let bytes = list(set, thresholds, map)?;
-    let mut sized = vec![0; bytes.len() / SPOT_BYTES * SIZED_BYTES];
-    join(set, map.rows, map.cols, &bytes, &mut sized)?;
-    Ok(sized
-        .as_chunks()
-        .0
-        .iter()
-        .map(SizedSpot::from_record)
-        .collect())
+    let bytes = list(|out| detect(set, thresholds, map, out))?;
+    sized(set, map, &bytes)
 }

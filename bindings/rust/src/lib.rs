@@ -1,6 +1,8 @@
 //! Uramsheg's detector for Rust. Every call ends, whatever it is given, and a refused call writes nothing, but for a scene's that is `Refusal::Full`; what each
-//! promises is proved (docs/PROMISES.md). The layouts of sets and of records stand in include/uramsheg.h.
+//! promises is proved (docs/PROMISES.md). The layouts of sets, of records and of tables stand in include/uramsheg.h.
 
+#[cfg(feature = "detector")]
+mod desks;
 #[cfg(feature = "detector")]
 mod detector;
 #[cfg(feature = "detector")]
@@ -8,11 +10,14 @@ mod feed;
 #[cfg(feature = "float")]
 pub mod float;
 mod missing;
+mod owner;
 mod refusal;
 #[cfg(feature = "detector")]
 mod scene;
 mod spot;
 
+#[cfg(feature = "detector")]
+pub use desks::{SET_BYTES, Slot, TABLE_BYTES, TABLE_SLOTS, Table};
 #[cfg(feature = "detector")]
 #[doc(hidden)]
 pub use detector::raw;
@@ -24,6 +29,7 @@ pub use detector::{
 #[cfg(feature = "detector")]
 pub use feed::{FEED_BYTES, Feed, RING_COLUMNS, Spots, feed_column, feed_start};
 pub use missing::Missing;
+pub use owner::{Desk, NotYours, Owner};
 pub use refusal::Refusal;
 #[cfg(feature = "detector")]
 pub use scene::{

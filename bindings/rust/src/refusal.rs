@@ -1,11 +1,12 @@
 //! Why a call was refused, in words.
 
-use crate::Missing;
+use crate::{Missing, NotYours};
 use std::fmt;
 
 /// Why a call was refused. Of the call's checks, in its order, the first that holds is answered: detection checks 1, 2, 3, 8, 4; the join, and that of old lists,
 /// 1, 4, 5 for the list's length, 5 for a record, 6; correction 4, 7; halving a level 1, 2, 6; making levels 1, 2, 3, 4, 6; a feed's start 1, 3, 8, 4, 6; its
-/// column 9, 2, 6; a scene 10, 2, 3, 8, 4, 6 for a tile slice, 6 for the records of a tile.
+/// column 9, 2, 6; a scene 10, 2, 3, 8, 4, 6 for a tile slice, 6 for the records of a tile; a desk's claim 11, 12; its write 11, 12, 4; its release 11; a run from
+/// a table 11, then as detection.
 #[derive(Clone, Copy, Debug, PartialEq, Eq)]
 pub enum Refusal {
     /// 1: rows or cols above 4,096, but for a scene.
@@ -14,7 +15,7 @@ pub enum Refusal {
     Level,
     /// 3: the octave is above 5.
     Octave,
-    /// 4: the set record is not 528 bytes long or not good.
+    /// 4: the set record is not 528 bytes long or not good, as a slot's is that was claimed and not yet written.
     Set,
     /// 5: the list is not a whole number of records (the index is then their number), or the record at the index is bad.
     Records { index: usize },
@@ -30,6 +31,10 @@ pub enum Refusal {
     Past,
     /// 10: rows or cols of a scene above 16,384.
     Scene,
+    /// 11: the table, or the slot, is not the caller's to use, and why.
+    NotYours(NotYours),
+    /// 12: the slot's write count is the largest, 4,294,967,295.
+    Count,
 }
 
 /// The thresholds' names, in their order.
@@ -38,7 +43,7 @@ const NAMES: [&str; 5] = ["peak", "sigma", "ratio", "low", "high"];
 impl Refusal {
     /// The refusal with a number and the value that goes with it, as the C functions answer them; None for a number, or a cause beside 7, that is none of
     /// theirs. Which threshold is NaN they do not say: the calls see it by those they were given. Nor do they say of 6 beside 0 whether it is `Room` or a
-    /// scene's first tile that does not fit: `scene` sees it by the tile slices.
+    /// scene's first tile that does not fit: `scene` sees it by the tile slices. Nor why it is 11: a `Table` sees it by its slot.
     pub fn from_number(number: u32, value: usize) -> Option<Refusal> {
         Some(match number {
             1 => Refusal::Size,
@@ -52,6 +57,8 @@ impl Refusal {
             8 => Refusal::Thresholds { nan: [false; 5] },
             9 => Refusal::Past,
             10 => Refusal::Scene,
+            11 => Refusal::NotYours(NotYours::Unsaid),
+            12 => Refusal::Count,
             _ => return None,
         })
     }
@@ -68,6 +75,8 @@ impl Refusal {
             Refusal::Thresholds { .. } => 8,
             Refusal::Past => 9,
             Refusal::Scene => 10,
+            Refusal::NotYours(_) => 11,
+            Refusal::Count => 12,
         }
     }
 }
@@ -87,7 +96,7 @@ impl fmt::Display for Refusal {
             Refusal::Set => write!(
                 f,
                 "the set record is not 528 bytes long, or the set is not good: its floats must be finite, its sigmas positive and rising, its cap not \
-                 below 0, its order bytes under 9 and its spare bytes 0"
+                 below 0, its order bytes under 9 and its spare bytes 0 (a claimed slot has a good one only once it is written)"
             ),
             Refusal::Records { index } => write!(
                 f,
@@ -120,6 +129,11 @@ impl fmt::Display for Refusal {
             Refusal::Scene => write!(
                 f,
                 "rows or cols of a scene above 16384: cut it into several"
+            ),
+            Refusal::NotYours(why) => why.fmt(f),
+            Refusal::Count => write!(
+                f,
+                "the slot's write count is 4294967295, the largest: use another slot"
             ),
         }
     }
