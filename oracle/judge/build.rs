@@ -12,11 +12,12 @@ mod fixed_sets;
 mod substitutions;
 
 const PUBLISHED: [&str; 4] = ["scale_fit.rs", "reference.rs", "stream.rs", "blur.rs"];
-const DOCUMENT: [&str; 13] = [
+const DOCUMENT: [&str; 14] = [
     "admission.rs",
     "causes.rs",
     "columns.rs",
     "counting.rs",
+    "desks.rs",
     "entries.rs",
     "feed.rs",
     "here.rs",
@@ -197,10 +198,9 @@ fn write_document(
             fs::write(&path, entry.applied(&sound).unwrap()).unwrap();
         }
         let name = file.trim_end_matches(".rs");
-        let seen = if ["feed.rs", "levels.rs", "scene.rs", "steps.rs"].contains(&file) {
-            "pub"
-        } else {
-            "pub(crate)"
+        let seen = match file {
+            "desks.rs" | "feed.rs" | "levels.rs" | "scene.rs" | "steps.rs" => "pub",
+            _ => "pub(crate)",
         };
         writeln!(text, "#[path = {path:?}]\n{seen} mod {name};").unwrap();
     }
