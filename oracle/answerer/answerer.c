@@ -242,6 +242,47 @@ static void scene(void) {
     free(out.bytes);
 }
 
+/* The claim, or the release. */
+typedef uint32_t Desk(uint8_t *, size_t, size_t, size_t);
+
+static void desk(Desk *called) {
+    Bytes table = bytes();
+    size_t desk = number(), slot = number();
+    answer(called(table.bytes, table.length, desk, slot));
+    give(table.bytes, table.length);
+    free(table.bytes);
+}
+
+static void desk_write(void) {
+    Bytes table = bytes();
+    size_t desk = number(), slot = number();
+    Bytes set = bytes();
+    answer(uramsheg_desk_write(table.bytes, table.length, desk, slot, set.bytes, set.length));
+    give(table.bytes, table.length);
+    free(table.bytes);
+    free(set.bytes);
+}
+
+static void desk_run(void) {
+    Bytes table = bytes();
+    size_t slot = number();
+    float thresholds[5];
+    for (int i = 0; i < 5; i++) thresholds[i] = real();
+    size_t rows = number(), cols = number(), octave = number();
+    Reals l[4];
+    for (int i = 0; i < 4; i++) l[i] = reals();
+    Bytes out = bytes();
+    uint64_t value = UINT64_MAX;
+    answer(uramsheg_desk_run(table.bytes, table.length, slot, thresholds[0], thresholds[1], thresholds[2], thresholds[3], thresholds[4], rows, cols,
+                             octave, l[0].values, l[0].length, l[1].values, l[1].length, l[2].values, l[2].length, l[3].values, l[3].length, out.bytes,
+                             out.length, &value));
+    answer(value);
+    give(out.bytes, out.length);
+    for (int i = 0; i < 4; i++) free(l[i].values);
+    free(table.bytes);
+    free(out.bytes);
+}
+
 static void set_check(void) {
     Bytes set = bytes();
     answer(uramsheg_set_check(set.bytes, set.length));
@@ -263,6 +304,10 @@ int main(void) {
         case 'f': feed_start(); break;
         case 'g': feed_column(); break;
         case 't': scene(); break;
+        case 'a': desk(uramsheg_desk_claim); break;
+        case 'w': desk_write(); break;
+        case 'b': desk(uramsheg_desk_release); break;
+        case 'r': desk_run(); break;
         default: stop("no such request");
         }
         fflush(stdout);

@@ -53,6 +53,54 @@ pub struct Given {
     pub fill: u8,
 }
 
+/// What a desk asks of a slot, or a run from it.
+#[derive(Clone, Debug)]
+pub enum Ask {
+    Claim {
+        desk: usize,
+    },
+    Write {
+        desk: usize,
+        record: Vec<u8>,
+    },
+    Release {
+        desk: usize,
+    },
+    /// Detection under the slot's set, not the scene's own, into `room` bytes, each filled with `fill` first.
+    Run {
+        scene: Scene,
+        room: usize,
+        fill: u8,
+    },
+}
+
+impl Ask {
+    /// The desk that asks; a run has none.
+    pub fn desk(&self) -> Option<usize> {
+        match self {
+            Ask::Claim { desk } | Ask::Write { desk, .. } | Ask::Release { desk } => Some(*desk),
+            Ask::Run { .. } => None,
+        }
+    }
+
+    /// The same asked by another desk.
+    pub fn by(mut self, other: usize) -> Ask {
+        match &mut self {
+            Ask::Claim { desk } | Ask::Write { desk, .. } | Ask::Release { desk } => *desk = other,
+            Ask::Run { .. } => {}
+        }
+        self
+    }
+}
+
+/// A call about a slot of a table of which so many bytes are lent.
+#[derive(Clone, Debug)]
+pub struct Asked {
+    pub lent: usize,
+    pub slot: usize,
+    pub ask: Ask,
+}
+
 /// One input to one function.
 #[derive(Clone, Debug)]
 pub enum Case {
@@ -113,6 +161,8 @@ pub enum Case {
         rooms: Vec<usize>,
         fill: u32,
     },
+    /// Calls on a table one after another; it stands in room for a longer one.
+    Desks { table: Vec<u8>, calls: Vec<Asked> },
     /// An inner function on words.
     Inner {
         function: &'static str,

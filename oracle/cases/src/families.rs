@@ -3,6 +3,7 @@
 use crate::case::{Case, Scene};
 use crate::causes;
 use crate::deltas;
+use crate::desks;
 use crate::feeds;
 use crate::homes;
 use crate::levels;
@@ -20,7 +21,7 @@ use crate::turning;
 use crate::words::{self, FUNCTIONS};
 
 /// The families of cases. `inner` counts through the inner functions.
-pub const FAMILIES: [&str; 34] = [
+pub const FAMILIES: [&str; 35] = [
     "list",
     "detect",
     "join",
@@ -55,6 +56,7 @@ pub const FAMILIES: [&str; 34] = [
     "scenes",
     "deltas",
     "old",
+    "desks",
 ];
 
 /// The case of a family with the given seed and number.
@@ -99,6 +101,7 @@ pub fn expand(family: &str, seed: u64, number: usize) -> Case {
         "records" => damaged_records(random, PRESENT),
         "deltas" => deltas::join(random, number),
         "old" => old::join(random, number),
+        "desks" => desks::history(random, number),
         "floats" => {
             let (function, words) = words::many(random, number);
             Case::Inner {

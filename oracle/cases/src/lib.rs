@@ -3,6 +3,7 @@
 pub mod case;
 pub mod causes;
 pub mod deltas;
+pub mod desks;
 pub mod edges;
 pub mod families;
 pub mod feeds;
@@ -22,7 +23,7 @@ pub mod sets;
 mod turning;
 pub mod words;
 
-pub use case::{Case, Feed, Given, Raw, Scene, Start};
+pub use case::{Ask, Asked, Case, Feed, Given, Raw, Scene, Start};
 pub use edges::{Knob, turn};
 pub use families::{FAMILIES, expand};
 pub use sets::Set;

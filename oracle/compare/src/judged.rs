@@ -3,7 +3,9 @@
 use cases::levels::{FILL, TAPS, WIDEST};
 use cases::records::SPOT;
 use cases::{Raw, Scene, Set, Start};
-use judge::{Answer, Kernel, Logs, Map, Pass, RawMap, Rules, feed, inner, levels, scene, steps};
+use judge::{
+    Answer, Kernel, Logs, Map, Pass, RawMap, Rules, desks, feed, inner, levels, scene, steps,
+};
 use subject::{Correction, Fed, Lent, Reply, Subject, Tiling};
 
 /// The judge under given rules, by its reference or its streaming pass.
@@ -263,12 +265,63 @@ impl Subject for Judge {
         Some(cut_scene(scene::CUT, given, levels, lent))
     }
 
+    fn desk_claim(
+        &mut self,
+        table: &mut [u8],
+        desk: usize,
+        slot: usize,
+    ) -> Option<Result<(), u32>> {
+        Some(desk_call(table, desk, slot, desks::Call::Claim))
+    }
+
+    fn desk_write(
+        &mut self,
+        table: &mut [u8],
+        desk: usize,
+        slot: usize,
+        record: &[u8],
+    ) -> Option<Result<(), u32>> {
+        Some(desk_call(table, desk, slot, desks::Call::Write(record)))
+    }
+
+    fn desk_release(
+        &mut self,
+        table: &mut [u8],
+        desk: usize,
+        slot: usize,
+    ) -> Option<Result<(), u32>> {
+        Some(desk_call(table, desk, slot, desks::Call::Release))
+    }
+
+    fn desk_run(
+        &mut self,
+        table: &[u8],
+        slot: usize,
+        scene: &Scene,
+        out: &mut [u8],
+    ) -> Option<Fed> {
+        let answer = desks::run(self.rules, self.pass, table, slot, map_of(scene), out);
+        let (number, value) = match answer {
+            Answer::Done(count) => (0, count as u64),
+            Answer::Refused { number, index } => (number, index as u64),
+        };
+        Some(Fed { number, value })
+    }
+
     fn inner(&mut self, function: &str, set: &Set, words: &[f32]) -> Option<Vec<f32>> {
         let set = set_of(set);
         helper(function, words)
             .or_else(|| level(self.logs, function, words))
             .or_else(|| scale_fit(self.rules, function, &set, words))
             .or_else(|| profile(self.rules, function, &set, words))
+    }
+}
+
+/// The judge's answer to a desk's call.
+fn desk_call(table: &mut [u8], desk: usize, slot: usize, call: desks::Call) -> Result<(), u32> {
+    match desks::called(table, desk, slot, call) {
+        0 => Ok(()),
+        number => Err(number),
     }
 }
 

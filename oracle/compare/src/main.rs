@@ -2,10 +2,13 @@
 
 #[cfg(feature = "archive")]
 mod archived;
+mod desks;
 #[cfg(feature = "archive")]
 mod fed;
 #[cfg(feature = "archive")]
 mod forged;
+#[cfg(feature = "archive")]
+mod histories;
 mod judged;
 #[cfg(feature = "archive")]
 mod lanes;
@@ -43,6 +46,7 @@ const USE: &str = "use: compare own [SEED [TIMES]]
      compare forged SEED TIMES                (built with the feature `archive`; 1,500,000 calls a time on forged states)
      compare scenes SEED TIMES                (built with the feature `archive`; the family, and every fourth map as a scene)
      compare tiles SEED TIMES                 (built with the feature `archive`; 2,000 small scenes a time in small tiles)
+     compare desks SEED TIMES                 (built with the feature `archive`; 3,000,000 calls a time of two desks on one table)
      compare soak SEED MAPS [FIRST]           (built with the feature `archive`; from the map of number FIRST on)
      compare probe SEED CASES_A_FUNCTION      (built with the feature `probe`)
      compare steps SEED [EVERY]               (built with the feature `probe`; every 256th pattern where EVERY is not given)
@@ -93,6 +97,8 @@ fn main() -> ExitCode {
             &mut subject::archive::Archive::default(),
         ),
         #[cfg(feature = "archive")]
+        Some("desks") => histories::run(number(1, SEED), number(2, 1) as usize),
+        #[cfg(feature = "archive")]
         Some("soak") if words.len() > 2 => soak::run(
             number(1, SEED),
             number(2, 1) as usize,
@@ -142,6 +148,7 @@ fn own(seed: u64, times: usize) -> bool {
         400 * times,
         &mut Judge::sound(),
     );
+    sound &= desks::apart("desks-of-the-judge-apart", seed, 400 * times, &mut Judge::sound());
     own::logarithms(seed, times);
     own::taps(seed, times);
     sound
@@ -160,6 +167,10 @@ fn tally(seed: u64, times: usize) -> bool {
                     answer(tally.feeds.entry(family.into()).or_default(), &one.case)
                 }
                 Case::Tiled { .. } => answer(&mut tally.scenes, &one.case),
+                Case::Desks { table, calls } => {
+                    tally.desks.add_history(&mut judge, table, calls);
+                    answer(&mut judge, &one.case)
+                }
                 case => answer(&mut judge, case),
             };
             tally.add_returns(&judge::returns());
@@ -196,6 +207,8 @@ fn tally(seed: u64, times: usize) -> bool {
     let untiled = (!untiled.is_empty()).then(|| format!("no scene answers {untiled:?}"));
     let unjoined = tally.joins_not_reached();
     let unjoined = (!unjoined.is_empty()).then(|| format!("no join answers {unjoined:?}"));
+    let unasked = tally.desks.not_reached();
+    let unasked = (!unasked.is_empty()).then(|| format!("no call of a desk has {unasked:?}"));
     own::told(
         "every-gate-rejects",
         fault,
@@ -234,6 +247,16 @@ fn tally(seed: u64, times: usize) -> bool {
             "every-answer-of-both-joins-is-reached",
             unjoined,
             "0, 1, 4, 5 for the length and for a record, 6; 5 for a displacement alone where there is one",
+        )
+        & own::told(
+            "every-answer-of-a-desk-is-reached",
+            unasked,
+            "a claim's 0, 11 and 12, a write's 4 besides, a release's 0 and 11, a run's 0, 11, 1, 2, 3, 8 and 4; every two causes at once",
+        )
+        & own::told(
+            "a-desk-is-answered-by-its-first-cause",
+            tally.desks.odd(),
+            "the length, the desk, the slot, its owner, its count; of a run the map's and the set's; of a write the record's",
         )
 }
 

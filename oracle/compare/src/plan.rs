@@ -5,12 +5,12 @@ use crate::search;
 use cases::homes::{KINDS, WALK};
 use cases::levels::PAIRS;
 use cases::scenes::ROUND;
-use cases::{Case, Knob, deltas, expand, turn};
+use cases::{Case, Knob, deltas, desks, expand, turn};
 use subject::answer;
 use subject::stored::{Entry, Kept, Section};
 
 /// Cases of a family in a bounded run and in the stored list.
-pub const COUNTS: [(&str, usize); 33] = [
+pub const COUNTS: [(&str, usize); 34] = [
     ("list", 3000),
     ("detect", 1800),
     ("join", 1200),
@@ -44,6 +44,7 @@ pub const COUNTS: [(&str, usize); 33] = [
     ("scenes", ROUND),
     ("deltas", 16 * deltas::ROUND),
     ("old", 1600),
+    ("desks", 3 * desks::ROUND),
 ];
 
 /// Searches one case's edges: its seed, its number, and how often to try.

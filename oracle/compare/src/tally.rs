@@ -1,6 +1,7 @@
 //! What a run of cases has reached: maps, spots, pixels with both polarities, spots at sigma 0, each gate's rejections, each radius of a level, each return
 //! without a statistic or a size, each pair of answers that an edge parts.
 
+use crate::desks::Desks;
 use crate::judged::Judge;
 use crate::search::{Kind, kind};
 use cases::causes::STATISTIC;
@@ -30,6 +31,7 @@ pub struct Tally {
     joins: BTreeMap<(bool, &'static str), usize>,
     pub feeds: BTreeMap<String, Fedness>,
     pub scenes: Scenes,
+    pub desks: Desks,
 }
 
 /// What scenes answered, by its number: of 6 how many after so many tiles; the records of scenes that were taken, the most tiles that had some, and the tiles
@@ -310,7 +312,7 @@ impl Tally {
             let answer = join_answer(*old, list, case, &text);
             *self.joins.entry((*old, answer)).or_default() += 1;
         }
-        if text.starts_with("refused") {
+        if text.starts_with("refused") && !matches!(case, Case::Desks { .. }) {
             let number: String = text
                 .split([' ', ':', '\n'])
                 .take(2)
@@ -432,6 +434,8 @@ impl Tally {
         println!(
             "scenes list {records} records, in {tiles} tiles at most; {twice} tiles are detected twice"
         );
+        println!("desks, {}", self.desks.told());
+        self.desks.print_pairs();
         for ((old, answer), count) in &self.joins {
             let of = if *old { "old lists" } else { "lists" };
             println!("joins of {of}, {answer}: {count}");

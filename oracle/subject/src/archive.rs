@@ -2,7 +2,7 @@
 //! that page before every buffer and then behind it, and both must answer and leave the same.
 
 use crate::guarded::{Room, Side};
-use crate::{Correction, Fed, Lent, Reply, Subject, Tiling, scene};
+use crate::{Correction, Fed, Lent, Reply, Subject, Tiling, desks, scene};
 use cases::{Raw, Scene, Set, Start};
 use core::fmt::Debug;
 use uramsheg::{Map, Refusal, Thresholds, raw};
@@ -17,6 +17,7 @@ pub struct Archive {
     out: Room,
     feeds: [FeedRooms; 2],
     slices: [Room; 4],
+    table: Room,
 }
 
 /// One of the wrapper's two joins.
@@ -75,6 +76,26 @@ impl Archive {
         }
         lent.out.copy_from_slice(left.out);
         fed
+    }
+}
+
+impl Archive {
+    /// A desk's call on copies of the table and of a record beside the page, on either side of it.
+    fn desk(
+        &mut self,
+        table: &mut [u8],
+        record: &[u8],
+        call: impl Fn(&mut [u8], &[u8]) -> u32,
+    ) -> Result<(), u32> {
+        let number = both_sides(table, |side, left| {
+            let set = self.set.lend(side, record);
+            let lent = self.table.lend(side, left);
+            let number = call(lent, set);
+            assert!(set == record, "the record was written");
+            left.copy_from_slice(lent);
+            number
+        });
+        if number == 0 { Ok(()) } else { Err(number) }
     }
 }
 
@@ -452,5 +473,53 @@ impl Subject for Archive {
             "what is written depends on where the buffers stand"
         );
         Some(fed)
+    }
+    fn desk_claim(
+        &mut self,
+        table: &mut [u8],
+        desk: usize,
+        slot: usize,
+    ) -> Option<Result<(), u32>> {
+        Some(self.desk(table, &[], |lent, _| desks::claim(lent, desk, slot)))
+    }
+
+    fn desk_write(
+        &mut self,
+        table: &mut [u8],
+        desk: usize,
+        slot: usize,
+        record: &[u8],
+    ) -> Option<Result<(), u32>> {
+        let call = |lent: &mut [u8], set: &[u8]| desks::write(lent, desk, slot, set);
+        Some(self.desk(table, record, call))
+    }
+
+    fn desk_release(
+        &mut self,
+        table: &mut [u8],
+        desk: usize,
+        slot: usize,
+    ) -> Option<Result<(), u32>> {
+        Some(self.desk(table, &[], |lent, _| desks::release(lent, desk, slot)))
+    }
+
+    fn desk_run(
+        &mut self,
+        table: &[u8],
+        slot: usize,
+        scene: &Scene,
+        out: &mut [u8],
+    ) -> Option<Fed> {
+        let levels = scene.levels.each_ref().map(Vec::as_slice);
+        Some(both_sides(out, |side, left| {
+            let held = self.table.lend(side, table);
+            let shown = lend_four(&mut self.levels, side, levels);
+            let seen = shown.each_ref().map(|level| &**level);
+            let lent = self.out.lend(side, left);
+            let fed = desks::run(held, slot, scene, seen, lent);
+            assert!(held == table, "a run wrote the table");
+            left.copy_from_slice(lent);
+            fed
+        }))
     }
 }

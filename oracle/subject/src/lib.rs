@@ -1,10 +1,12 @@
 //! What is under test, behind one trait, and its answers as plain bytes.
 
 use cases::records::{OLD, PRESENT, SPOT, cut};
-use cases::{Case, Feed, Given, Raw, Scene, Set, Start};
+use cases::{Ask, Asked, Case, Feed, Given, Raw, Scene, Set, Start};
 
 #[cfg(feature = "archive")]
 pub mod archive;
+#[cfg(feature = "archive")]
+pub mod desks;
 #[cfg(feature = "archive")]
 pub mod guarded;
 pub mod piped;
@@ -29,7 +31,7 @@ pub struct Correction {
     pub cause: u8,
 }
 
-/// An answer of a feed's column or of a whole scene: 0 or a refusal's number, and the value beside it.
+/// An answer of a feed's column, of a whole scene or of a run from a table's slot: 0 or a refusal's number, and the value beside it.
 #[derive(Clone, Copy, Debug, PartialEq, Eq)]
 pub struct Fed {
     pub number: u32,
@@ -160,6 +162,48 @@ pub trait Subject {
         None
     }
 
+    /// A desk's claim of a slot of a lent table: done, or a refusal number.
+    fn desk_claim(
+        &mut self,
+        _table: &mut [u8],
+        _desk: usize,
+        _slot: usize,
+    ) -> Option<Result<(), u32>> {
+        None
+    }
+
+    /// A desk's write of a record.
+    fn desk_write(
+        &mut self,
+        _table: &mut [u8],
+        _desk: usize,
+        _slot: usize,
+        _record: &[u8],
+    ) -> Option<Result<(), u32>> {
+        None
+    }
+
+    /// A desk's release.
+    fn desk_release(
+        &mut self,
+        _table: &mut [u8],
+        _desk: usize,
+        _slot: usize,
+    ) -> Option<Result<(), u32>> {
+        None
+    }
+
+    /// Detection under a slot's set, not the scene's own, into a lent buffer.
+    fn desk_run(
+        &mut self,
+        _table: &[u8],
+        _slot: usize,
+        _scene: &Scene,
+        _out: &mut [u8],
+    ) -> Option<Fed> {
+        None
+    }
+
     /// An inner function on words: a bool is 1.0 or 0.0, an absent number is no word, an absent statistic minus the number of its cause.
     fn inner(&mut self, _function: &str, _set: &Set, _words: &[f32]) -> Option<Vec<f32>> {
         None
@@ -192,6 +236,7 @@ pub fn answer(subject: &mut dyn Subject, case: &Case) -> Option<Vec<u8>> {
         Case::FromRaw { scene, pixels } => from_raw(subject, scene, pixels),
         Case::Fed { feeds, given } => fed(subject, feeds, given),
         Case::Tiled { .. } => tiled(subject, case),
+        Case::Desks { table, calls } => asked(subject, table, calls),
         Case::Inner {
             function,
             set,
@@ -374,6 +419,48 @@ fn tiled(subject: &mut dyn Subject, case: &Case) -> Option<Vec<u8>> {
         }
     }
     Some(bytes)
+}
+
+/// Calls on a table: of each the reply, a run's output, and the whole room that the table stands in.
+fn asked(subject: &mut dyn Subject, table: &[u8], calls: &[Asked]) -> Option<Vec<u8>> {
+    let mut table = table.to_vec();
+    let mut bytes = Vec::new();
+    for call in calls {
+        let mut out = output(call);
+        let fed = ask(subject, &mut table, call, &mut out)?;
+        bytes.extend(fed.told().into_bytes());
+        bytes.extend(out);
+        bytes.extend(&table);
+    }
+    Some(bytes)
+}
+
+/// The buffer that a call is lent, which only a run writes.
+pub fn output(call: &Asked) -> Vec<u8> {
+    match call.ask {
+        Ask::Run { room, fill, .. } => vec![fill; room],
+        _ => Vec::new(),
+    }
+}
+
+/// One call on as much of the table as it is lent.
+pub fn ask(
+    subject: &mut dyn Subject,
+    table: &mut [u8],
+    call: &Asked,
+    out: &mut [u8],
+) -> Option<Fed> {
+    let (slot, lent) = (call.slot, &mut table[..call.lent]);
+    let done = match &call.ask {
+        Ask::Claim { desk } => subject.desk_claim(lent, *desk, slot)?,
+        Ask::Write { desk, record } => subject.desk_write(lent, *desk, slot, record)?,
+        Ask::Release { desk } => subject.desk_release(lent, *desk, slot)?,
+        Ask::Run { scene, .. } => return subject.desk_run(lent, slot, scene, out),
+    };
+    Some(Fed {
+        number: done.err().unwrap_or(0),
+        value: 0,
+    })
 }
 
 /// Floats of any bits, another at each place.

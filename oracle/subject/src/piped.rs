@@ -108,6 +108,24 @@ impl Piped {
         self.reply(out)
     }
 
+    /// A desk's call by its letter, a write's with its record.
+    fn desk(
+        &mut self,
+        letter: u8,
+        table: &mut [u8],
+        desk: usize,
+        slot: usize,
+        record: Option<&[u8]>,
+    ) -> Result<(), u32> {
+        self.send(&[letter]);
+        self.bytes(table);
+        self.numbers(&[desk, slot]);
+        if let Some(record) = record {
+            self.bytes(record);
+        }
+        self.answer(|piped| piped.read(table))
+    }
+
     /// The floats of a buffer that was written.
     fn written(&mut self, out: &mut [f32]) {
         let mut bytes = vec![0; 4 * out.len()];
@@ -273,6 +291,53 @@ impl Subject for Piped {
             .into_iter()
             .for_each(|slice| self.written(slice));
         self.read(lent.out);
+        Some(Fed { number, value })
+    }
+    fn desk_claim(
+        &mut self,
+        table: &mut [u8],
+        desk: usize,
+        slot: usize,
+    ) -> Option<Result<(), u32>> {
+        Some(self.desk(b'a', table, desk, slot, None))
+    }
+
+    fn desk_write(
+        &mut self,
+        table: &mut [u8],
+        desk: usize,
+        slot: usize,
+        record: &[u8],
+    ) -> Option<Result<(), u32>> {
+        Some(self.desk(b'w', table, desk, slot, Some(record)))
+    }
+
+    fn desk_release(
+        &mut self,
+        table: &mut [u8],
+        desk: usize,
+        slot: usize,
+    ) -> Option<Result<(), u32>> {
+        Some(self.desk(b'b', table, desk, slot, None))
+    }
+
+    fn desk_run(
+        &mut self,
+        table: &[u8],
+        slot: usize,
+        scene: &Scene,
+        out: &mut [u8],
+    ) -> Option<Fed> {
+        self.send(b"r");
+        self.bytes(table);
+        self.numbers(&[slot]);
+        self.patterns(&scene.thresholds);
+        self.numbers(&[scene.rows, scene.cols, scene.octave]);
+        scene.levels.iter().for_each(|level| self.floats(level));
+        self.bytes(out);
+        let number = self.next() as u32;
+        let value = self.next() as u64;
+        self.read(out);
         Some(Fed { number, value })
     }
 }
