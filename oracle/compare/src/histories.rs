@@ -11,7 +11,7 @@ use cases::records::SPOT;
 use cases::{Ask, Asked, Set};
 use std::time::Instant;
 use subject::archive::{Archive, lend_four};
-use subject::desks::{claim, release, run as run_from, write};
+use subject::desks::{Call, called, called_run};
 use subject::guarded::{Room, Side};
 use subject::{Fed, ask, output};
 
@@ -54,18 +54,18 @@ impl Rooms {
     fn call(&mut self, side: Side, table: &mut [u8], call: &Asked, out: &mut [u8]) -> Fed {
         let slot = call.slot;
         let number = match &call.ask {
-            Ask::Claim { desk } => claim(table, *desk, slot),
+            Ask::Claim { desk } => called(table, *desk, slot, Call::Claim),
             Ask::Write { desk, record } => {
                 let record = self.record.lend(side, record);
-                write(table, *desk, slot, record)
+                called(table, *desk, slot, Call::Write(record))
             }
-            Ask::Release { desk } => release(table, *desk, slot),
+            Ask::Release { desk } => called(table, *desk, slot, Call::Release),
             Ask::Run { scene, .. } => {
                 let levels = scene.levels.each_ref().map(Vec::as_slice);
                 let levels = lend_four(&mut self.levels, side, levels);
                 let lent = self.out.lend(side, out);
                 let seen = levels.each_ref().map(|level| &**level);
-                let fed = run_from(table, slot, scene, seen, lent);
+                let fed = called_run(table, slot, scene, seen, lent);
                 out.copy_from_slice(lent);
                 return fed;
             }

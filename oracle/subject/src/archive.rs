@@ -1,8 +1,9 @@
 //! The detector as its archive exports it, through the Rust wrapper. Every buffer is lent beside an untouchable page: each call is made twice, with
 //! that page before every buffer and then behind it, and both must answer and leave the same.
 
+use crate::desks::{self, Call};
 use crate::guarded::{Room, Side};
-use crate::{Correction, Fed, Lent, Reply, Subject, Tiling, desks, scene};
+use crate::{Correction, Fed, Lent, Reply, Subject, Tiling, scene};
 use cases::{Raw, Scene, Set, Start};
 use core::fmt::Debug;
 use uramsheg::{Map, Refusal, Thresholds, raw};
@@ -80,18 +81,19 @@ impl Archive {
 }
 
 impl Archive {
-    /// A desk's call on copies of the table and of a record beside the page, on either side of it.
-    fn desk(
-        &mut self,
-        table: &mut [u8],
-        record: &[u8],
-        call: impl Fn(&mut [u8], &[u8]) -> u32,
-    ) -> Result<(), u32> {
+    /// A desk's call on copies of the table and of the record beside the page: with the page before them by the wrapper, with the page behind them by the C
+    /// function.
+    fn desk(&mut self, table: &mut [u8], desk: usize, slot: usize, call: Call) -> Result<(), u32> {
         let number = both_sides(table, |side, left| {
-            let set = self.set.lend(side, record);
             let lent = self.table.lend(side, left);
-            let number = call(lent, set);
-            assert!(set == record, "the record was written");
+            let call = match call {
+                Call::Write(record) => Call::Write(self.set.lend(side, record)),
+                other => other,
+            };
+            let number = match side {
+                Side::Before => desks::wrapped(lent, desk, slot, call),
+                Side::Behind => desks::called(lent, desk, slot, call),
+            };
             left.copy_from_slice(lent);
             number
         });
@@ -480,7 +482,7 @@ impl Subject for Archive {
         desk: usize,
         slot: usize,
     ) -> Option<Result<(), u32>> {
-        Some(self.desk(table, &[], |lent, _| desks::claim(lent, desk, slot)))
+        Some(self.desk(table, desk, slot, Call::Claim))
     }
 
     fn desk_write(
@@ -490,8 +492,7 @@ impl Subject for Archive {
         slot: usize,
         record: &[u8],
     ) -> Option<Result<(), u32>> {
-        let call = |lent: &mut [u8], set: &[u8]| desks::write(lent, desk, slot, set);
-        Some(self.desk(table, record, call))
+        Some(self.desk(table, desk, slot, Call::Write(record)))
     }
 
     fn desk_release(
@@ -500,7 +501,7 @@ impl Subject for Archive {
         desk: usize,
         slot: usize,
     ) -> Option<Result<(), u32>> {
-        Some(self.desk(table, &[], |lent, _| desks::release(lent, desk, slot)))
+        Some(self.desk(table, desk, slot, Call::Release))
     }
 
     fn desk_run(
@@ -516,7 +517,11 @@ impl Subject for Archive {
             let shown = lend_four(&mut self.levels, side, levels);
             let seen = shown.each_ref().map(|level| &**level);
             let lent = self.out.lend(side, left);
-            let fed = desks::run(held, slot, scene, seen, lent);
+            let call = match side {
+                Side::Before => desks::wrapped_run,
+                Side::Behind => desks::called_run,
+            };
+            let fed = call(held, slot, scene, seen, lent);
             assert!(held == table, "a run wrote the table");
             left.copy_from_slice(lent);
             fed
