@@ -34,14 +34,17 @@ const SLOT: usize = 2;
 const OWNER: usize = 3;
 const COUNT: usize = 4;
 const SIZE: usize = 5;
+const LEVEL: usize = 6;
+const OCTAVE: usize = 7;
+const THRESHOLDS: usize = 8;
 const SET: usize = 9;
 
-/// The causes that a call can have, and its answers beside 0 by their numbers.
+/// The causes that each call can have.
 const OF_CALL: [&[usize]; 4] = [
     &[LENGTH, DESK, SLOT, OWNER, COUNT],
     &[LENGTH, DESK, SLOT, OWNER, COUNT, SET],
     &[LENGTH, DESK, SLOT, OWNER],
-    &[LENGTH, SLOT, OWNER, SIZE, 6, 7, 8, SET],
+    &[LENGTH, SLOT, OWNER, SIZE, LEVEL, OCTAVE, THRESHOLDS, SET],
 ];
 
 /// Which causes a call has.
@@ -55,6 +58,16 @@ fn place(ask: &Ask) -> usize {
         Ask::Release { .. } => 2,
         Ask::Run { .. } => 3,
     }
+}
+
+/// A call in words, without its record or its map.
+pub fn in_words(call: &Asked) -> String {
+    let by = call
+        .ask
+        .desk()
+        .map_or(String::new(), |desk| format!(" by desk {desk}"));
+    let name = CALLS[place(&call.ask)];
+    format!("{name}{by} at slot {}, {} bytes lent", call.slot, call.lent)
 }
 
 /// Whether sides, levels, octave and thresholds of a map are refused.
@@ -136,7 +149,7 @@ impl Desks {
         let first = causes.iter().position(|&held| held);
         let due = first.map_or(0, |first| CAUSES[first].1);
         if fed.number != due || due != 0 && fed.value != 0 {
-            let words = || format!("{}: {fed:?}, by its causes {due}", CALLS[of]);
+            let words = || format!("{}: {fed:?}, by its causes {due}", in_words(call));
             self.odd.get_or_insert_with(words);
         }
     }
@@ -313,7 +326,8 @@ impl Worlds<'_> {
         seen.compared[one.0.number.min(12) as usize] += 1;
         seen.listing += usize::from(one.0.value > 0);
         if one != other {
-            return Err(format!("{call:?}: {:?} and {:?}", one.0, other.0));
+            let words = in_words(&call);
+            return Err(format!("{words}: {:?} and {:?}", one.0, other.0));
         }
         self.same()?;
         if matches!(call.ask, Ask::Release { .. }) && one.0.number == 0 {

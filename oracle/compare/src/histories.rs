@@ -1,7 +1,7 @@
 //! The archive's table of sets by the million calls: long histories of two desks on a table beside an untouchable page, against the judge's; every length of a
 //! table, every owner byte, desks and slots from 0 on; and two desks apart.
 
-use crate::desks::{Desks, apart};
+use crate::desks::{Desks, apart, in_words};
 use crate::judged::Judge;
 use crate::own::told;
 use cases::desks::{COUNTS, Kind, OWNERS, Pool, ROOM, SLOTS, TABLE, put};
@@ -100,30 +100,32 @@ impl<'a> Both<'a> {
         }
     }
 
-    /// One call of both, counted: where they part.
+    /// One call of both, counted: where they part. A table of another length is a copy, made of what stands there.
     fn step(&mut self, call: &Asked, seen: &mut Desks) -> Result<(), String> {
         let (mut out, mut due) = (output(call), output(call));
-        let odd = call.lent != TABLE;
-        let fed = match odd {
-            false => self.rooms.call(self.side, self.table, call, &mut out),
-            true => {
-                let lent = self.other.lend(self.side, &self.sound[..call.lent]);
-                let fed = self.rooms.call(self.side, lent, call, &mut out);
-                if *lent != self.sound[..call.lent] {
-                    return Err(format!("{call:?}: a table of another length was written"));
-                }
-                fed
-            }
+        let before = &self.sound[..call.lent];
+        let mut kept = true;
+        let fed = if call.lent == TABLE {
+            self.rooms.call(self.side, self.table, call, &mut out)
+        } else {
+            let lent = self.other.lend(self.side, before);
+            let fed = self.rooms.call(self.side, lent, call, &mut out);
+            kept = *lent == *before;
+            fed
         };
-        seen.add(&self.sound[..call.lent], call, fed);
+        seen.add(before, call, fed);
         let sound = ask(&mut Judge::sound(), &mut self.sound, call, &mut due);
-        if sound != Some(fed) || out != due {
-            return Err(format!("{call:?}: {fed:?}, by the judge {sound:?}"));
-        }
-        match *self.table == self.sound[..TABLE] {
-            true => Ok(()),
-            false => Err(format!("{call:?}: {fed:?}, the table is not the judge's")),
-        }
+        kept &= *self.table == self.sound[..TABLE];
+        let fault = if sound != Some(fed) {
+            format!("{fed:?}, by the judge {sound:?}")
+        } else if out != due {
+            format!("{fed:?}, the output is not the judge's")
+        } else if !kept {
+            format!("{fed:?}, the table is not the judge's")
+        } else {
+            return Ok(());
+        };
+        Err(format!("{}: {fault}", in_words(call)))
     }
 }
 
