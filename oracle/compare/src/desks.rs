@@ -136,8 +136,10 @@ impl Desks {
         let (causes, of) = (causes(table, call), place(&call.ask));
         self.calls += 1;
         self.answers[of][fed.number.min(12) as usize] += 1;
-        self.listing += usize::from(fed.value > 0);
-        self.records += fed.value as usize;
+        if fed.number == 0 {
+            self.listing += usize::from(fed.value > 0);
+            self.records += fed.value as usize;
+        }
         for (one, held) in causes.iter().enumerate() {
             for (other, both) in causes.iter().enumerate().skip(one + 1) {
                 self.pairs[of][one][other] += usize::from(*held && *both);

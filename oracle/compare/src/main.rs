@@ -148,7 +148,12 @@ fn own(seed: u64, times: usize) -> bool {
         400 * times,
         &mut Judge::sound(),
     );
-    sound &= desks::apart("desks-of-the-judge-apart", seed, 400 * times, &mut Judge::sound());
+    sound &= desks::apart(
+        "desks-of-the-judge-apart",
+        seed,
+        400 * times,
+        &mut Judge::sound(),
+    );
     own::logarithms(seed, times);
     own::taps(seed, times);
     sound
