@@ -60,6 +60,13 @@ def test_special_numbers(name, field, value, place):
     assert (tables.faults(made.tobytes()) == []) == cface.good(made.tobytes())
 
 
+@pytest.mark.parametrize("lost", ["0000c07f", "ffffffff", "0100807f", "010080ff"])
+def test_every_nan_is_named_quiet_or_signalling(lost):
+    made = u.Tables.from_bytes(bytes.fromhex(lost) * 129 + bytes(12))
+    assert made.to_bytes() == bytes.fromhex(lost) * 129 + bytes(12) and len(made.faults()) == 129 and all(fault.endswith(" is not finite") for fault in made.faults())
+    assert repr(made) == "<uramsheg.Tables of sigmas nan, nan, nan, nan>"
+
+
 def test_every_fault_is_named():
     nan = np.float32(np.nan)
     bad = u.standard().replace(sigmas=[0, nan, 3, 3], scale=np.full((4, 3), np.inf), move_cap=-1, order=[9] * 9, spare=[1, 0, 2], blend_beta=nan)

@@ -101,6 +101,7 @@ class Tables:
         return f"<uramsheg.Tables of sigmas {', '.join(text.shortest(sigma) for sigma in self.sigmas)}>"
 
 
+@np.errstate(invalid="ignore")  # a signalling NaN is compared as any other
 def faults(tables):
     """Every reason why a set, or a record's bytes, is not good; the proved check says only whether there is one."""
     octets = record_of(tables)

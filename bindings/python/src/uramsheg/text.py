@@ -16,6 +16,7 @@ LISTS = (
 )
 
 
+@np.errstate(invalid="ignore")  # of a signalling NaN too
 def shortest(value):
     """The shortest text of an f32 that reads back as the same f32, also where it is read as an f64 first."""
     single = np.float32(value)
