@@ -1,4 +1,5 @@
 """Uramsheg: the spots of a gas map that stand out at one size. Every call ends, whatever it is given; a refused one raises a `Refused`."""
+from .desks import Desk, Slot, Table
 from .detector import Thresholds, correct, detect, downsample, join, join_old, levels, octave_count, read_set
 from .feed import Feed
 from .filling import fill
@@ -7,8 +8,10 @@ from .grid import Grid
 from .missing import NO_SIZE
 from .records import OLD_SIZED, OLD_SPOT, SCENE, SET, SIZED, SPOT
 from .refusals import (
+    CountRefused,
     LevelRefused,
     NoSizeRefused,
+    NotYoursRefused,
     OctaveRefused,
     PastRefused,
     RecordsRefused,
@@ -27,7 +30,8 @@ size = join
 
 __version__ = "0.1.0"
 __all__ = [
-    "FOUND", "Feed", "Found", "Grid", "Judged", "LevelRefused", "NO_SIZE", "NoSizeRefused", "OLD_SIZED", "OLD_SPOT", "OctaveRefused", "PastRefused",
-    "RecordsRefused", "Refused", "RoomRefused", "SCENE", "SET", "SIZED", "SPOT", "SceneRefused", "SetRefused", "SizeRefused", "Tables", "TablesFault", "Thresholds", "ThresholdsRefused",
-    "Tile", "correct", "detect", "downsample", "fill", "find", "join", "join_old", "levels", "octave_count", "read_set", "scene", "size", "standard", "tiles",
+    "CountRefused", "Desk", "FOUND", "Feed", "Found", "Grid", "Judged", "LevelRefused", "NO_SIZE", "NoSizeRefused", "NotYoursRefused", "OLD_SIZED", "OLD_SPOT",
+    "OctaveRefused", "PastRefused", "RecordsRefused", "Refused", "RoomRefused", "SCENE", "SET", "SIZED", "SPOT", "SceneRefused", "SetRefused", "SizeRefused",
+    "Slot", "Table", "Tables", "TablesFault", "Thresholds", "ThresholdsRefused", "Tile", "correct", "detect", "downsample", "fill", "find", "join", "join_old",
+    "levels", "octave_count", "read_set", "scene", "size", "standard", "tiles",
 ]

@@ -60,9 +60,13 @@ class Asked(NamedTuple):
 
     def words(self):
         """The arguments that a call begins with."""
+        return [self.record, len(self.record), *self.rest()]
+
+    def rest(self):
+        """All of them but the set."""
         shape = self.levels[0].shape
         slices = [part for array in self.levels for part in slice_of(array, shape)]
-        return [self.record, len(self.record), *self.thresholds, *shape, self.octave, *slices]
+        return [*self.thresholds, *shape, self.octave, *slices]
 
     def refusal(self, number):
         """The exception of a refused call."""
@@ -87,12 +91,17 @@ def detect(levels, tables, thresholds, octave=0, *, room=1024):
     for; where there are more, a second try has room for all.
     """
     asked = asked_of(levels, tables, thresholds, octave)
-    given, value = asked.words(), ffi.new("uint64_t *")
+    return spots_by(lib.uramsheg_detect, asked.words(), asked.refusal, room)
+
+
+def spots_by(call, given, refused, room):
+    """The spots that a call lists, an array of SPOT, in one try or two; `refused` makes the exception of a number."""
+    value = ffi.new("uint64_t *")
     while True:
         out = np.zeros(arrays.count("room", room), SPOT)
-        number = lib.uramsheg_detect(*given, *arrays.octets_to_write(out), value)
+        number = call(*given, *arrays.octets_to_write(out), value)
         if number:
-            raise asked.refusal(number)
+            raise refused(number)
         if value[0] <= len(out):
             return out[:value[0]].copy()
         room = value[0]

@@ -46,8 +46,11 @@ FEED = np.dtype([
     ("set", SET), ("thresholds", "<f4", (5,)), ("rows", "<u4"), ("cols", "<u4"), ("position", "<u4"), ("octave", "u1"), ("spare", "u1", (3,)),
 ])
 
+#: a table of sets that two desks share: for each slot a set, its owner (0 free, or a Desk's number) and its write count
+TABLE = np.dtype([(name, kind, (lib.URAMSHEG_TABLE_SLOTS,)) for name, kind in (("sets", SET), ("owners", "u1"), ("counts", "<u4"))])
+
 for kind, width in ((SET, lib.URAMSHEG_SET_BYTES), (SPOT, lib.URAMSHEG_SPOT_BYTES), (SIZED, lib.URAMSHEG_SIZED_BYTES),
                     (OLD_SPOT, lib.URAMSHEG_OLD_SPOT_BYTES), (OLD_SIZED, lib.URAMSHEG_OLD_SIZED_BYTES),
-                    (TILED, lib.URAMSHEG_SCENE_BYTES), (FEED, lib.URAMSHEG_FEED_BYTES)):
+                    (TILED, lib.URAMSHEG_SCENE_BYTES), (FEED, lib.URAMSHEG_FEED_BYTES), (TABLE, lib.URAMSHEG_TABLE_BYTES)):
     if kind.itemsize != width:
         raise ImportError(f"a record of {kind.itemsize} bytes has {width} in uramsheg.h: build the package and its archive from one")

@@ -101,6 +101,21 @@ class SceneRefused(Refused):
     why = "rows or cols of a scene above 16384: cut it into scenes that share 8 pixels"
 
 
+class NotYoursRefused(Refused):
+    """The table is not 4,264 bytes long, the desk or the slot is none, or the slot is not free for a claim, not the desk's own for a write or a release, of
+    neither desk for a run; `detail` says which."""
+
+    number = lib.URAMSHEG_REFUSED_NOT_YOURS
+    why = "not yours: claim a free slot, write and release your desk's own, run from one that a desk owns"
+
+
+class CountRefused(Refused):
+    """The slot's write count is the largest that there is."""
+
+    number = lib.URAMSHEG_REFUSED_COUNT
+    why = "the slot's write count is 4294967295, the largest: use another slot"
+
+
 #: the classes by their numbers
 REFUSALS = {kind.number: kind for kind in Refused.__subclasses__()}
 
