@@ -13,6 +13,10 @@ SIGNATURES = {
     "uramsheg_feed_start": [OCTETS, SIZE, *[FLOAT] * 5, SIZE, SIZE, SIZE, *[FLOATS, SIZE] * 4, OCTETS, SIZE],
     "uramsheg_feed_column": [OCTETS, SIZE, *[FLOATS, SIZE] * 8, OCTETS, SIZE, U64],
     "uramsheg_scene": [OCTETS, SIZE, *[FLOAT] * 5, SIZE, SIZE, SIZE, *[FLOATS, SIZE] * 8, OCTETS, SIZE, U64],
+    "uramsheg_desk_claim": [OCTETS, SIZE, SIZE, SIZE],
+    "uramsheg_desk_write": [OCTETS, SIZE, SIZE, SIZE, OCTETS, SIZE],
+    "uramsheg_desk_release": [OCTETS, SIZE, SIZE, SIZE],
+    "uramsheg_desk_run": [OCTETS, SIZE, SIZE, *[FLOAT] * 5, SIZE, SIZE, SIZE, *[FLOATS, SIZE] * 4, OCTETS, SIZE, U64],
     "uramsheg_join": [OCTETS, SIZE, SIZE, SIZE, OCTETS, SIZE, OCTETS, SIZE, U64],
     "uramsheg_join_old": [OCTETS, SIZE, SIZE, SIZE, OCTETS, SIZE, OCTETS, SIZE, U64],
     "uramsheg_correct": [OCTETS, SIZE, *[FLOAT] * 5, c.c_bool, FLOATS, U64],
@@ -103,6 +107,23 @@ def scene(record, thresholds, levels, octave, lengths, room):
     given = [part for level in levels for part in by_columns(level)]
     number = library.uramsheg_scene(*octets(record), *thresholds, *levels[0].shape, octave, *given, *slices_of(lent, lengths), out, SCENE * room, value)
     return number, value.value, bytes(out)[: SCENE * room], bytes_of(lent, lengths)
+
+
+def desk(call, table, desk, slot, *record):
+    """The number of a claim, a release, or a write of a record, and the table's bytes after it."""
+    lent, length = octets(table)
+    number = getattr(library, f"uramsheg_desk_{call}")(lent, length, desk, slot, *[part for one in record for part in octets(one)])
+    return number, bytes(lent)[:length]
+
+
+def desk_run(table, slot, thresholds, levels, octave, room, shape=None):
+    """The number, the value and the bytes of `out`, which has room for as many records and holds 0xa5 before the call, and the table's bytes after it."""
+    rows, cols = shape or levels[0].shape
+    lent, length = octets(table)
+    out, value = (c.c_uint8 * max(SPOT * room, 1))(*[0xA5] * max(SPOT * room, 1)), c.c_uint64(77)
+    slices = [part for level in levels for part in by_columns(level)]
+    number = library.uramsheg_desk_run(lent, length, slot, *thresholds, rows, cols, octave, *slices, out, SPOT * room, value)
+    return number, value.value, bytes(out)[: SPOT * room], bytes(lent)[:length]
 
 
 def join(record, shape, listed, room, call="join"):

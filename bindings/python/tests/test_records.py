@@ -7,14 +7,15 @@ import pytest
 
 import uramsheg as u
 from uramsheg._native import lib
-from uramsheg.records import FEED, TILED
+from uramsheg.records import FEED, TABLE, TILED
 
 HEADER = (cface.ROOT / "include" / "uramsheg.h").read_text()
 
 
 @pytest.mark.parametrize("kind, width", [(u.SET, lib.URAMSHEG_SET_BYTES), (u.SPOT, lib.URAMSHEG_SPOT_BYTES), (u.SIZED, lib.URAMSHEG_SIZED_BYTES),
                                          (u.OLD_SPOT, lib.URAMSHEG_OLD_SPOT_BYTES), (u.OLD_SIZED, lib.URAMSHEG_OLD_SIZED_BYTES),
-                                         (TILED, lib.URAMSHEG_SCENE_BYTES), (FEED, lib.URAMSHEG_FEED_BYTES), (u.SCENE, 88)])
+                                         (TILED, lib.URAMSHEG_SCENE_BYTES), (FEED, lib.URAMSHEG_FEED_BYTES), (TABLE, lib.URAMSHEG_TABLE_BYTES),
+                                         (u.SCENE, 88)])
 def test_every_byte_has_a_name(kind, width):
     assert kind.itemsize == width == sum(kind[name].itemsize for name in kind.names)
     assert [kind.fields[name][1] for name in kind.names] == [sum(kind[before].itemsize for before in kind.names[:place]) for place in range(len(kind.names))]
@@ -50,6 +51,13 @@ def test_the_places_of_a_state_are_the_header_s():
     said = {"set": r"(\d+) the set record", "thresholds": r"(\d+) peak threshold, 532 sigma threshold, 536 curvature ratio, 540 window low, 544 window high",
             "rows": r"(\d+) rows", "cols": r"(\d+) cols", "position": r"(\d+) position", "octave": r"(\d+) octave", "spare": r"(\d+) 562 563 zero"}
     assert {name: int(re.search(pattern, text)[1]) for name, pattern in said.items()} == {name: FEED.fields[name][1] for name in FEED.names}
+
+
+def test_the_places_of_a_table_are_the_header_s():
+    text = HEADER[HEADER.index("The table (4264 bytes, little-endian)"):]
+    said = {"sets": r"(\d+) eight set records of 528 bytes", "owners": r"(\d+) eight owner bytes", "counts": r"(\d+) eight write counts \(u32 each\)"}
+    assert {name: int(re.search(pattern, text)[1]) for name, pattern in said.items()} == {name: TABLE.fields[name][1] for name in TABLE.names}
+    assert all(TABLE[name].shape == (8,) for name in TABLE.names)
 
 
 def test_chosen_records_keep_every_byte(m):

@@ -12,7 +12,7 @@ from hypothesis import given, strategies as st
 from mapm import MapM
 
 import uramsheg as u
-from uramsheg import _native, missing, refusals
+from uramsheg import _native, desks, missing, refusals
 from uramsheg._native import lib
 
 T = cface.case("list")[0]
@@ -32,7 +32,7 @@ def refused(kind, call, *given, **named):
 
 def test_each_number_of_the_header_has_a_class():
     named = {getattr(lib, name) for name in dir(lib) if name.startswith("URAMSHEG_REFUSED_")}
-    assert named == set(refusals.REFUSALS) == set(range(1, 11))
+    assert named == set(refusals.REFUSALS) == set(range(1, 13))
     for kind in refusals.REFUSALS.values():
         assert issubclass(kind, u.Refused) and issubclass(kind, ValueError) and kind.why and getattr(u, kind.__name__) is kind
 
@@ -159,7 +159,7 @@ def test_each_cause_of_the_header_has_the_words_of_the_other_faces():
         pytest.raises(RuntimeError, u.NoSizeRefused, cause)
 
 
-@pytest.mark.parametrize("module, name", [(missing, "URAMSHEG_NO_SIZE_NEW"), (refusals, "URAMSHEG_REFUSED_NEW")])
+@pytest.mark.parametrize("module, name", [(missing, "URAMSHEG_NO_SIZE_NEW"), (refusals, "URAMSHEG_REFUSED_NEW"), (desks, "URAMSHEG_DESK_NEW")])
 def test_a_number_of_the_header_without_words_stops_the_import(monkeypatch, module, name):
     def again():
         """The module's own text, run as another module."""
@@ -167,7 +167,7 @@ def test_a_number_of_the_header_without_words_stops_the_import(monkeypatch, modu
         spec.loader.exec_module(importlib.util.module_from_spec(spec))
 
     again()
-    numbers = {known: getattr(lib, known) for known in dir(lib) if known.startswith(("URAMSHEG_NO_SIZE_", "URAMSHEG_REFUSED_"))}
+    numbers = {known: getattr(lib, known) for known in dir(lib) if known.startswith("URAMSHEG_")}
     monkeypatch.setattr(_native, "lib", SimpleNamespace(**numbers, **{name: 99}))
     with pytest.raises(ImportError, match=name):
         again()
@@ -202,7 +202,8 @@ def test_10_scene(m):
 
 
 @pytest.mark.parametrize("error", [u.SizeRefused("5000 by 3"), u.RecordsRefused("record 3", 3), u.ThresholdsRefused(["peak", "low"]), u.NoSizeRefused(1),
-                                   u.NoSizeRefused(2), u.PastRefused("90 of 90"), u.SceneRefused("16385 by 3")])
+                                   u.NoSizeRefused(2), u.PastRefused("90 of 90"), u.SceneRefused("16385 by 3"), u.NotYoursRefused("slot 3 is free"),
+                                   u.CountRefused("slot 3")])
 def test_a_refusal_travels_between_processes(error):
     for again in (pickle.loads(pickle.dumps(error)), copy.copy(error)):
         assert (type(again), str(again), vars(again), again.args) == (type(error), str(error), vars(error), error.args)
