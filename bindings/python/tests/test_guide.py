@@ -25,6 +25,19 @@ def test_the_tests_and_theorems_it_names_are_there():
     assert theorems and all(f"`{name}`" in promises for name in theorems)
 
 
+def test_the_code_on_two_desks_runs(tmp_path, monkeypatch):
+    monkeypatch.chdir(tmp_path)
+    levels, tables = u.levels(blob.spots((64, 64), (30.2, 31.3, 2.5, 100)), u.standard()), u.standard()
+    due = u.detect(levels, tables, u.Thresholds(peak=10))
+    for text in (GUIDE, (cface.ROOT / "bindings" / "python" / "README.md").read_text()):
+        (code,) = re.findall(r"^```python\n(.*?)^```", text[text.index("## Two desks"):].split("\n## ")[0], re.M | re.S)
+        names = {"levels": levels, "tables": tables, "uramsheg": u}
+        exec(code, names)
+        assert names["spots"].tobytes() == due.tobytes() and len(due) == 1
+    assert names["sized"]["accepted"].all() and names["table"].count(3) == 2
+    assert (tmp_path / "desks").read_bytes() == tables.to_bytes() + bytes(7 * 528) + b"\2" + bytes(7) + b"\2" + bytes(31)
+
+
 @pytest.mark.parametrize("times, sizes", [(1, (2.4, 2.5)), (2, (2.5, 5.0)), (3.5, (2.5, 8.75)), (4, None), (5, None)])
 def test_long_spots(times, sizes):
     rows, cols = np.mgrid[:160, :160]
