@@ -469,6 +469,7 @@ def test_the_words_of_a_refusal(call, said):
 
 
 def test_the_words_of_other_refusals():
+    assert f"    {NOT_YOURS} (slot 3 is daily's; free: 0, 5)\n" in (cface.ROOT / "bindings" / "python" / "README.md").read_text()
     with pytest.raises(u.NotYoursRefused, match="slot 5 is daily's; free: none"):
         u.Table(FULL).claim(2, 5)
     for levels, thresholds, octave, kind, said in (
