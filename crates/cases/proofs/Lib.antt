@@ -2,4 +2,3 @@
 pub mod Table
 pub mod Cuts
 pub mod Moves
-pub mod Desks

@@ -6,4 +6,3 @@ pub mod Feeds
 pub mod Scenes
 pub mod Table
 pub mod Moves
-pub mod Desks

@@ -26,15 +26,15 @@ use Rattle.samples.specs.Level.{stencilOf, sampleAt, samplesOf, placesOf}
 use Rattle.checks.specs.Checks.{detectChecks}
 use Rattle.pixel.specs.Listed.{listed}
 use Rattle.detect.specs.Due as dues
 use Rattle.cases.specs.Case.{Case}
 use Rattle.cases.specs.MapM.{zeros, put, levelM, thresholdsOf, thresholdsM, mapM, oldM, bytesM}
 use Rattle.detect.specs.Detect.{detected}
 use Rattle.desks.specs.Table.{slotOf, runnable}
 use Rattle.desks.specs.Desks as desk
 use Rattle.desk_run.specs.Run.{runChecks, runOf}
 use Rattle.face_detect.specs.Face.{packed}
 use Rattle.face_desks.specs.Face.{toldNumber}
-use Rattle.cases.specs.Desks.{floatsBytes, setRecord, recordT, recordFlat, holding, empty, toldCase, seen, slotCase, ranM, runCase, answers, left, refusals, spotted, unspotted}
+use Rattle.desk_cases.specs.Desks.{floatsBytes, setRecord, recordT, recordFlat, holding, empty, toldCase, seen, slotCase, ranM, runCase, answers, left, refusals, spotted, unspotted}
 
 pub desk-answers-hold : map (λ (c : Case). c .given) answers ≡ map (λ (c : Case). c .due) answers
 unfolding answers toldCase desk.usable desk.needed desk.callChecks desk.callOf desk.finished desk.stored desk.zeros slotOf toldNumber refused.firstOf refused.unless refused.number goodRecord spareZero setOf floatsAt floatFrom wordFrom wordBytes floatBytes good allSet rising every finite lt ofBits toBits ofFields odd size values sigmasT cubicT row blockT numbersT setT floatsBytes setRecord recordT holding empty

@@ -1,0 +1,2 @@
+-- The worked cases of the table that two desks share.
+pub mod Desks
