@@ -204,6 +204,7 @@ impl Desks {
     }
 
     /// How often each call was done.
+    #[cfg(feature = "archive")]
     pub fn done(&self) -> [usize; 4] {
         self.answers.map(|answers| answers[0])
     }

@@ -11,9 +11,9 @@ use cases::records::SPOT;
 use cases::{Ask, Asked, Set};
 use std::time::Instant;
 use subject::archive::{Archive, lend_four};
-use subject::desks::{Call, called, called_run};
+use subject::desks::{called, called_run};
 use subject::guarded::{Room, Side};
-use subject::{Fed, ask, output};
+use subject::{Call, Fed, ask, output};
 
 /// Apart from the families' own sources.
 const SOURCE: u64 = 1 << 37;

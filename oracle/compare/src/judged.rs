@@ -6,7 +6,7 @@ use cases::{Raw, Scene, Set, Start};
 use judge::{
     Answer, Kernel, Logs, Map, Pass, RawMap, Rules, desks, feed, inner, levels, scene, steps,
 };
-use subject::{Correction, Fed, Lent, Reply, Subject, Tiling};
+use subject::{Call, Correction, Fed, Lent, Reply, Subject, Tiling};
 
 /// The judge under given rules, by its reference or its streaming pass.
 #[derive(Clone, Copy)]
@@ -265,32 +265,19 @@ impl Subject for Judge {
         Some(cut_scene(scene::CUT, given, levels, lent))
     }
 
-    fn desk_claim(
+    fn desk_call(
         &mut self,
         table: &mut [u8],
         desk: usize,
         slot: usize,
-    ) -> Option<Result<(), u32>> {
-        Some(desk_call(table, desk, slot, desks::Call::Claim))
-    }
-
-    fn desk_write(
-        &mut self,
-        table: &mut [u8],
-        desk: usize,
-        slot: usize,
-        record: &[u8],
-    ) -> Option<Result<(), u32>> {
-        Some(desk_call(table, desk, slot, desks::Call::Write(record)))
-    }
-
-    fn desk_release(
-        &mut self,
-        table: &mut [u8],
-        desk: usize,
-        slot: usize,
-    ) -> Option<Result<(), u32>> {
-        Some(desk_call(table, desk, slot, desks::Call::Release))
+        call: Call<'_>,
+    ) -> Option<u32> {
+        let call = match call {
+            Call::Claim => desks::Call::Claim,
+            Call::Write(record) => desks::Call::Write(record),
+            Call::Release => desks::Call::Release,
+        };
+        Some(desks::called(table, desk, slot, call))
     }
 
     fn desk_run(
@@ -314,14 +301,6 @@ impl Subject for Judge {
             .or_else(|| level(self.logs, function, words))
             .or_else(|| scale_fit(self.rules, function, &set, words))
             .or_else(|| profile(self.rules, function, &set, words))
-    }
-}
-
-/// The judge's answer to a desk's call.
-fn desk_call(table: &mut [u8], desk: usize, slot: usize, call: desks::Call) -> Result<(), u32> {
-    match desks::called(table, desk, slot, call) {
-        0 => Ok(()),
-        number => Err(number),
     }
 }
 

@@ -1,9 +1,8 @@
 //! The detector as its archive exports it, through the Rust wrapper. Every buffer is lent beside an untouchable page: each call is made twice, with
 //! that page before every buffer and then behind it, and both must answer and leave the same.
 
-use crate::desks::{self, Call};
 use crate::guarded::{Room, Side};
-use crate::{Correction, Fed, Lent, Reply, Subject, Tiling, scene};
+use crate::{Call, Correction, Fed, Lent, Reply, Subject, Tiling, desks, scene};
 use cases::{Raw, Scene, Set, Start};
 use core::fmt::Debug;
 use uramsheg::{Map, Refusal, Thresholds, raw};
@@ -77,27 +76,6 @@ impl Archive {
         }
         lent.out.copy_from_slice(left.out);
         fed
-    }
-}
-
-impl Archive {
-    /// A desk's call on copies of the table and of the record beside the page: with the page before them by the wrapper, with the page behind them by the C
-    /// function.
-    fn desk(&mut self, table: &mut [u8], desk: usize, slot: usize, call: Call) -> Result<(), u32> {
-        let number = both_sides(table, |side, left| {
-            let lent = self.table.lend(side, left);
-            let call = match call {
-                Call::Write(record) => Call::Write(self.set.lend(side, record)),
-                other => other,
-            };
-            let number = match side {
-                Side::Before => desks::wrapped(lent, desk, slot, call),
-                Side::Behind => desks::called(lent, desk, slot, call),
-            };
-            left.copy_from_slice(lent);
-            number
-        });
-        if number == 0 { Ok(()) } else { Err(number) }
     }
 }
 
@@ -476,32 +454,28 @@ impl Subject for Archive {
         );
         Some(fed)
     }
-    fn desk_claim(
-        &mut self,
-        table: &mut [u8],
-        desk: usize,
-        slot: usize,
-    ) -> Option<Result<(), u32>> {
-        Some(self.desk(table, desk, slot, Call::Claim))
-    }
 
-    fn desk_write(
+    /// On copies of the table and of the record beside the page: with the page before them by the wrapper, with the page behind them by the C function.
+    fn desk_call(
         &mut self,
         table: &mut [u8],
         desk: usize,
         slot: usize,
-        record: &[u8],
-    ) -> Option<Result<(), u32>> {
-        Some(self.desk(table, desk, slot, Call::Write(record)))
-    }
-
-    fn desk_release(
-        &mut self,
-        table: &mut [u8],
-        desk: usize,
-        slot: usize,
-    ) -> Option<Result<(), u32>> {
-        Some(self.desk(table, desk, slot, Call::Release))
+        call: Call<'_>,
+    ) -> Option<u32> {
+        Some(both_sides(table, |side, left| {
+            let lent = self.table.lend(side, left);
+            let call = match call {
+                Call::Write(record) => Call::Write(self.set.lend(side, record)),
+                other => other,
+            };
+            let number = match side {
+                Side::Before => desks::wrapped(lent, desk, slot, call),
+                Side::Behind => desks::called(lent, desk, slot, call),
+            };
+            left.copy_from_slice(lent);
+            number
+        }))
     }
 
     fn desk_run(

@@ -1,17 +1,9 @@
 //! The archive's calls on a table of sets: by the wrapper, and as C has them.
 
-use crate::Fed;
 use crate::archive::thresholds_of;
+use crate::{Call, Fed};
 use cases::Scene;
 use uramsheg::{Desk, Map, Refusal, Table, raw};
-
-/// What a desk asks of a slot.
-#[derive(Clone, Copy)]
-pub enum Call<'a> {
-    Claim,
-    Write(&'a [u8]),
-    Release,
-}
 
 /// The C function's answer.
 pub fn called(table: &mut [u8], desk: usize, slot: usize, call: Call) -> u32 {

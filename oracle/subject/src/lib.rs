@@ -61,6 +61,14 @@ pub struct Tiling<'a> {
     pub out: &'a mut [u8],
 }
 
+/// What a desk asks of a slot.
+#[derive(Clone, Copy, Debug)]
+pub enum Call<'a> {
+    Claim,
+    Write(&'a [u8]),
+    Release,
+}
+
 /// One implementation; a function it does not offer answers None.
 pub trait Subject {
     /// What the reports call it.
@@ -162,34 +170,14 @@ pub trait Subject {
         None
     }
 
-    /// A desk's claim of a slot of a lent table: done, or a refusal number.
-    fn desk_claim(
+    /// A desk's call on a slot of a lent table: 0, or a refusal's number.
+    fn desk_call(
         &mut self,
         _table: &mut [u8],
         _desk: usize,
         _slot: usize,
-    ) -> Option<Result<(), u32>> {
-        None
-    }
-
-    /// A desk's write of a record.
-    fn desk_write(
-        &mut self,
-        _table: &mut [u8],
-        _desk: usize,
-        _slot: usize,
-        _record: &[u8],
-    ) -> Option<Result<(), u32>> {
-        None
-    }
-
-    /// A desk's release.
-    fn desk_release(
-        &mut self,
-        _table: &mut [u8],
-        _desk: usize,
-        _slot: usize,
-    ) -> Option<Result<(), u32>> {
+        _call: Call<'_>,
+    ) -> Option<u32> {
         None
     }
 
@@ -451,16 +439,14 @@ pub fn ask(
     out: &mut [u8],
 ) -> Option<Fed> {
     let (slot, lent) = (call.slot, &mut table[..call.lent]);
-    let done = match &call.ask {
-        Ask::Claim { desk } => subject.desk_claim(lent, *desk, slot)?,
-        Ask::Write { desk, record } => subject.desk_write(lent, *desk, slot, record)?,
-        Ask::Release { desk } => subject.desk_release(lent, *desk, slot)?,
+    let (desk, asked) = match &call.ask {
+        Ask::Claim { desk } => (*desk, Call::Claim),
+        Ask::Write { desk, record } => (*desk, Call::Write(record)),
+        Ask::Release { desk } => (*desk, Call::Release),
         Ask::Run { scene, .. } => return subject.desk_run(lent, slot, scene, out),
     };
-    Some(Fed {
-        number: done.err().unwrap_or(0),
-        value: 0,
-    })
+    let number = subject.desk_call(lent, desk, slot, asked)?;
+    Some(Fed { number, value: 0 })
 }
 
 /// Floats of any bits, another at each place.

@@ -1,6 +1,6 @@
 //! The detector's archive of another processor: `answerer` linked with it, run as a process that answers call by call over a pipe.
 
-use crate::{Correction, Fed, Lent, Reply, Subject, Tiling};
+use crate::{Call, Correction, Fed, Lent, Reply, Subject, Tiling};
 use cases::{Raw, Scene, Set, Start};
 use std::io::{BufReader, BufWriter, Read, Write};
 use std::process::{Child, ChildStdin, ChildStdout, Command, Stdio};
@@ -106,24 +106,6 @@ impl Piped {
         self.bytes(list);
         self.bytes(out);
         self.reply(out)
-    }
-
-    /// A desk's call by its letter, a write's with its record.
-    fn desk(
-        &mut self,
-        letter: u8,
-        table: &mut [u8],
-        desk: usize,
-        slot: usize,
-        record: Option<&[u8]>,
-    ) -> Result<(), u32> {
-        self.send(&[letter]);
-        self.bytes(table);
-        self.numbers(&[desk, slot]);
-        if let Some(record) = record {
-            self.bytes(record);
-        }
-        self.answer(|piped| piped.read(table))
     }
 
     /// The floats of a buffer that was written.
@@ -293,32 +275,27 @@ impl Subject for Piped {
         self.read(lent.out);
         Some(Fed { number, value })
     }
-    fn desk_claim(
-        &mut self,
-        table: &mut [u8],
-        desk: usize,
-        slot: usize,
-    ) -> Option<Result<(), u32>> {
-        Some(self.desk(b'a', table, desk, slot, None))
-    }
 
-    fn desk_write(
+    fn desk_call(
         &mut self,
         table: &mut [u8],
         desk: usize,
         slot: usize,
-        record: &[u8],
-    ) -> Option<Result<(), u32>> {
-        Some(self.desk(b'w', table, desk, slot, Some(record)))
-    }
-
-    fn desk_release(
-        &mut self,
-        table: &mut [u8],
-        desk: usize,
-        slot: usize,
-    ) -> Option<Result<(), u32>> {
-        Some(self.desk(b'b', table, desk, slot, None))
+        call: Call<'_>,
+    ) -> Option<u32> {
+        self.send(match call {
+            Call::Claim => b"a",
+            Call::Write(_) => b"w",
+            Call::Release => b"b",
+        });
+        self.bytes(table);
+        self.numbers(&[desk, slot]);
+        if let Call::Write(record) = call {
+            self.bytes(record);
+        }
+        let number = self.next() as u32;
+        self.read(table);
+        Some(number)
     }
 
     fn desk_run(
