@@ -1,5 +1,5 @@
 /* Uramsheg's detector: makes the four blurred levels of a raw gas map, lists the spots of four levels, whole, column by column or, of a large scene, tile by
- * tile, and gives each its size; and keeps the sets of two desks in one table. Proved in Rattle; see docs/PROMISES.md.
+ * tile, and gives each its size; keeps the sets of two desks in one table, and a day's spots in a store. Proved in Rattle; see docs/PROMISES.md.
  *
  * Link with libalp_c.a (`tests/staticlib alp_c` writes target/staticlib/libalp_c.a); it needs nothing else.
  * Every call ends, whatever it is given. A slice is a pointer and its length in elements; a pointer must be valid for that length, and what is written to
@@ -55,6 +55,9 @@ enum { URAMSHEG_SCENE_BYTES = 64, URAMSHEG_SCENE_LONGEST = 16384, URAMSHEG_TILE_
 /* A table of sets that two desks share: its bytes, its slots, and the desks. */
 enum { URAMSHEG_TABLE_BYTES = 4264, URAMSHEG_TABLE_SLOTS = 8, URAMSHEG_DESK_DAILY = 1, URAMSHEG_DESK_REPROCESSING = 2 };
 
+/* A store of spots: the polarity byte (byte 38) of a free slot. Its slots are as long as a spot record. */
+enum { URAMSHEG_FREE_SLOT = 255 };
+
 /* What a call answers: 0, or why it was refused. Of the call's checks, in its order, the first that holds is answered; each call gives its order below,
  * and the numbers say nothing about it. */
 enum {
@@ -63,16 +66,18 @@ enum {
     URAMSHEG_REFUSED_LEVEL = 2,     /* a level, or the raw map, is not rows * cols long; a feed's column is not rows long */
     URAMSHEG_REFUSED_OCTAVE = 3,    /* octave above 5 */
     URAMSHEG_REFUSED_SET = 4,       /* the set record is not 528 bytes long or not good */
-    URAMSHEG_REFUSED_RECORDS = 5,   /* the list is no whole number of records (*value is how many are whole), or holds a bad one (*value is its index) */
+    URAMSHEG_REFUSED_RECORDS = 5,   /* the list is no whole number of records (*value is how many are whole), or holds a bad one (*value is its index); of a
+                                       store, its slots and the record that is added to it alike */
     URAMSHEG_REFUSED_ROOM = 6,      /* the output, one of four levels, of a ring's or a scene's tile slices, or the room for a feed's state is shorter than
-                                       needed; of a scene alone *value is then the number of tiles that were written whole */
+                                       needed; of a scene alone *value is then the number of tiles that were written whole; of a store no slot is free */
     URAMSHEG_REFUSED_NO_SIZE = 7,   /* the spot has no size; *cause says why */
     URAMSHEG_REFUSED_THRESHOLDS = 8, /* a threshold is not a number: one of the five is a NaN, as a blank in a sheet reads */
     URAMSHEG_REFUSED_PAST = 9,       /* all columns of the feed have come: start another */
     URAMSHEG_REFUSED_SCENE = 10,     /* rows or cols of a scene above 16384: cut it into several */
     URAMSHEG_REFUSED_NOT_YOURS = 11, /* the table is not 4264 bytes long, the desk not 1 or 2, the slot above 7, or not free for a claim, not the desk's own
                                         for a write or a release, of neither desk for a run */
-    URAMSHEG_REFUSED_COUNT = 12      /* the slot's write count is 4294967295, the largest: use another slot */
+    URAMSHEG_REFUSED_COUNT = 12,     /* the slot's write count is 4294967295, the largest: use another slot */
+    URAMSHEG_REFUSED_NO_SPOT = 13    /* the store's slot holds no spot: it is free, or there is none of that number */
 };
 
 /* Why a spot has no size: of the two, in this order, the first that holds. It stands in byte 57 of a sized record, 49 of an old one, and in *cause
@@ -241,6 +246,38 @@ uint32_t uramsheg_desk_run(const uint8_t *table, size_t table_length, size_t slo
                            const float *level0, size_t level0_length, const float *level1, size_t level1_length,
                            const float *level2, size_t level2_length, const float *level3, size_t level3_length,
                            uint8_t *out, size_t out_length, uint64_t *value);
+
+/* A store: a day's spots in one lent buffer, so that a struck false spot gives its room back.
+ *
+ * The store: slots of 48 bytes, one after the other, as many as the buffer holds; slot i begins at byte 48 * i. A live slot holds a spot record. A free slot
+ * has 255 in byte 38, where a record has its polarity, and 0 in its other 47 bytes. There is nothing else in it, so that it may be copied, kept and sent.
+ * uramsheg_store_clear makes a new one of any buffer. Two calls that run at the same time must not be lent the same store.
+ *
+ * A spot keeps its slot until it is struck or the store is closed up; the records' bytes are kept as they were added. The store is a list of optional spots
+ * and no more: after any calls the live records and their slots, and each answer, are those of such a list.
+ *
+ * Each call but clearing takes the rows and cols of the map that the spots were found on, and first checks the whole store for them (so that its time grows
+ * with the number of slots): each slot must be free, or hold a record that is not bad, as in uramsheg_join; 255 in byte 38 with another byte not 0 is bad.
+ *
+ * Each call answers 0. Refused, it answers the number, and the store is untouched; *value is then 0, but for 5: where the store's length is no multiple of 48
+ * it is the number of whole slots, else the index of the first slot that is bad; for the record that is added it is the number of slots. */
+
+/* Frees every slot, whatever stands in the buffer. *value is 0. Refused with 5 where the length is no multiple of 48; nothing else is asked. */
+uint32_t uramsheg_store_clear(uint8_t *store, size_t store_length, uint64_t *value);
+
+/* Puts a spot record into the lowest free slot, whose number is *value.
+ * Refused with 1, then with 5 for the store's length, 5 for a slot, 5 for the record (bad, or not 48 bytes long), then with 6 where no slot is free: a bad
+ * record is 5 in a full store too. `spot` must not overlap the store. */
+uint32_t uramsheg_store_add(uint8_t *store, size_t store_length, size_t rows, size_t cols, const uint8_t *spot, size_t spot_length, uint64_t *value);
+
+/* Strikes the spot of a slot: the slot becomes free. *value is 0.
+ * Refused with 1, then with 5 for the store's length, 5 for a slot, then with 13 where the slot is free or not one of the store's. */
+uint32_t uramsheg_store_strike(uint8_t *store, size_t store_length, size_t rows, size_t cols, size_t slot, uint64_t *value);
+
+/* Closes the store up: the live records move down in the order of their slots, the slots behind them become free, and *value is the number of live ones.
+ * The first 48 * *value bytes are then a list that uramsheg_join takes for the same rows and cols, never refused with 5. Closing up a closed store changes
+ * nothing. Refused with 1, then with 5 for the store's length, 5 for a slot. */
+uint32_t uramsheg_store_close_up(uint8_t *store, size_t store_length, size_t rows, size_t cols, uint64_t *value);
 
 /* The corrected sigma of a spot with these centre samples, this sigma and this polarity, in *corrected, and 0 in *cause.
  * Refused (checked in the order 4, 7), it neither reads nor writes *corrected, which may be unset; *cause is 0 beside 4, and beside 7 why the spot has no
