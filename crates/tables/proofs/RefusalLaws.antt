@@ -2,7 +2,7 @@
 use Prim.Native.Nat.{ℕ, zero, suc, _≤_, _<_}
 use native.Mathlib.Omega.{arith}
 use mathlib.Core.Bool.{Bool, true, false}
-use mathlib.Core.List.{List, [], _∷_}
+use mathlib.Core.List.{List, [], _∷_, _++_}
 use mathlib.Core.Path.{_≡_, refl}
 use lib.Dec.{ltb}
 use borrow.Author.Tests.{ltb-false}
@@ -84,3 +84,21 @@ pub fine-first : (cs : List Check) → ((k : ℕ) → saidAt cs k ≡ Fine) → 
 unfolding firstOf saidAt unless
 fine-first [] h = refl
 fine-first (c ∷ cs) h = let p = unless-fine (c .holds) (c .refusal) Fine (h zero) in rw (p .0) (fine-first cs (λ k. h (suc k)))
+
+-- ---- checks behind others
+
+-- where the first ones are fine, the others decide
+pub first-over : (cs rest : List Check) → firstOf cs ≡ Fine → firstOf (cs ++ rest) ≡ firstOf rest
+unfolding firstOf unless
+first-over [] rest e = refl
+first-over (c ∷ cs) rest e = let p = unless-fine (c .holds) (c .refusal) (firstOf cs) e in rw (p .0) (first-over cs rest (p .1))
+
+-- and where one of them refuses, it is answered
+pub first-stops : (cs rest : List Check) (r : Refusal) → firstOf cs ≡ Bad r → firstOf (cs ++ rest) ≡ Bad r
+unfolding firstOf unless
+first-stops [] rest r e = cc
+first-stops (c ∷ cs) rest r e = go (c .holds) e (first-stops cs rest r)
+  where
+    go : (b : Bool) → unless b (c .refusal) (firstOf cs) ≡ Bad r → (firstOf cs ≡ Bad r → firstOf (cs ++ rest) ≡ Bad r) → unless b (c .refusal) (firstOf (cs ++ rest)) ≡ Bad r
+    go true h further = h
+    go false h further = further h

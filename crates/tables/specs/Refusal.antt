@@ -6,7 +6,7 @@ use mathlib.Core.Path.{_≡_}
 use lib.Dec.{ltb}
 use lib.Ieee.{isNan}
 use Rattle.tables.specs.declared.Refusal.{Refusal}
-use Rattle.tables.specs.declared.Refusal.the-variants.{Size, Level, Octave, BadSet, Records, Room, NoSize, Thresholds, Past, Scene, NotYours, Count}
+use Rattle.tables.specs.declared.Refusal.the-variants.{Size, Level, Octave, BadSet, Records, Room, NoSize, Thresholds, Past, Scene, NotYours, Count, NoSpot}
 use Rattle.tables.specs.declared.Missing.{Missing}
 use Rattle.tables.specs.declared.Missing.the-variants.{Polarity, Range}
 use Rattle.tables.specs.declared.Checked.{Checked}
@@ -35,6 +35,7 @@ number Past = 9
 number Scene = 10
 number NotYours = 11
 number Count = 12
+number NoSpot = 13
 
 -- the value that goes with it: a bad record's index, the cause of a missing size, else 0
 unfoldable pub value : Refusal → ℕ
@@ -50,6 +51,7 @@ value Past = 0
 value Scene = 0
 value NotYours = 0
 value Count = 0
+value NoSpot = 0
 
 -- refuse r where the test holds, and look further otherwise
 unfoldable pub unless : Bool → Refusal → Checked → Checked

@@ -51,6 +51,7 @@ pub enum Refusal {
     Scene,
     NotYours,
     Count,
+    NoSpot,
 }
 
 // The outcome of a check.

@@ -31,6 +31,7 @@ pub fn number_of(why: Refusal) -> u32
         Refusal::Scene => 10,
         Refusal::NotYours => 11,
         Refusal::Count => 12,
+        Refusal::NoSpot => 13,
     }
 }
 
@@ -51,5 +52,6 @@ pub fn value_of(why: Refusal) -> u64
         Refusal::Scene => 0,
         Refusal::NotYours => 0,
         Refusal::Count => 0,
+        Refusal::NoSpot => 0,
     }
 }

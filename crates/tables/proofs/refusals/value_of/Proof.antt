@@ -46,6 +46,9 @@ enum-told-9 c = search needs
 enum-told-10 : tie.Need-enum-told-10
 enum-told-10 c = search needs
 
+enum-told-11 : tie.Need-enum-told-11
+enum-told-11 c = search needs
+
 returns : tie.Need-returns
 unfolding value
 returns c = rw (c .before .why .given .1)
@@ -94,6 +97,10 @@ returns-12 : tie.Need-returns-12
 unfolding value
 returns-12 c = rw (c .enum-told10 .given .1)
 
+returns-13 : tie.Need-returns-13
+unfolding value
+returns-13 c = rw (c .enum-told11 .given .1)
+
 pub value-of-spec : {M : Type 1} → statement M
 value-of-spec =
     tie.close
@@ -112,6 +119,7 @@ value-of-spec =
     enum-told-8
     enum-told-9
     enum-told-10
+    enum-told-11
     returns
     returns-2
     returns-3
@@ -123,4 +131,5 @@ value-of-spec =
     returns-9
     returns-10
     returns-11
-    returns-12)
+    returns-12
+    returns-13)

@@ -1,0 +1,103 @@
+-- Laws of the search: it finds a slot that the test holds of, and no earlier one; and it goes turn by turn. Assumes nothing.
+use Prim.Native.Nat.{ℕ, zero, suc, _+_, _*_, _/_, _≤_, _<_}
+use native.Mathlib.Nat.{not-suc-le-zero, le-of-suc-le-suc}
+use native.Mathlib.Numerals.{add-one}
+use native.Mathlib.Omega.{arith}
+use mathlib.Core.Bool.{Bool, true, false, cond, false≢true}
+use mathlib.Core.Path.{_≡_, refl, sym, ap, _∙_}
+use mathlib.Core.List.{List, [], _∷_}
+use lib.Dec.{ltb}
+use lib.ListN.{length, getD, take, drop, drop-of-length-le}
+use lib.Seq.{drop-cons}
+use borrow.Author.Tests.{ltb-true, ltb-false}
+use Rattle.record.specs.Layout.{spotWidth}
+use Rattle.store.specs.Slots.{slotsOf, firstWhere}
+use Rattle.store.proofs.SlotLaws.{count-of, slot-at}
+
+module _ (test : List ℕ → Bool) where
+  -- ---- what it finds
+
+  pub where-most : (ss : List (List ℕ)) → firstWhere test ss ≤ length ss
+  unfolding firstWhere
+  where-most [] = omega arith
+  where-most (s ∷ ss) = go (test s) (where-most ss)
+    where
+      go : (t : Bool) → firstWhere test ss ≤ length ss → cond t 0 (suc (firstWhere test ss)) ≤ suc (length ss)
+      go true h = omega arith
+      go false h = omega arith
+
+  -- the test holds of the slot found, where it is one of them
+  pub where-holds : (ss : List (List ℕ)) (d : List ℕ) → firstWhere test ss < length ss → test (getD ss (firstWhere test ss) d) ≡ true
+  unfolding firstWhere
+  where-holds [] d h = absurd (not-suc-le-zero h)
+  where-holds (s ∷ ss) d h = go (test s) refl h (λ l. where-holds ss d l)
+    where
+      go : (t : Bool) → test s ≡ t → cond t 0 (suc (firstWhere test ss)) < suc (length ss) → (firstWhere test ss < length ss → test (getD ss (firstWhere test ss) d) ≡ true)
+          → test (getD (s ∷ ss) (cond t 0 (suc (firstWhere test ss))) d) ≡ true
+      go true e l further = e
+      go false e l further = further (le-of-suc-le-suc l)
+
+  -- and of no earlier one
+  pub where-first : (ss : List (List ℕ)) (d : List ℕ) (k : ℕ) → k < firstWhere test ss → test (getD ss k d) ≡ false
+  unfolding firstWhere
+  where-first [] d k h = absurd (not-suc-le-zero h)
+  where-first (s ∷ ss) d k h = go (test s) refl k h (λ j l. where-first ss d j l)
+    where
+      go : (t : Bool) → test s ≡ t → (k : ℕ) → k < cond t 0 (suc (firstWhere test ss)) → ((j : ℕ) → j < firstWhere test ss → test (getD ss j d) ≡ false)
+          → test (getD (s ∷ ss) k d) ≡ false
+      go true e k l further = absurd (not-suc-le-zero l)
+      go false e zero l further = e
+      go false e (suc k) l further = further k (le-of-suc-le-suc l)
+
+  -- a slot that the test holds of, with none before it that it holds of, is found
+  pub where-is : (ss : List (List ℕ)) (d : List ℕ) (i : ℕ) → i < length ss → test (getD ss i d) ≡ true → ((k : ℕ) → k < i → test (getD ss k d) ≡ false) → firstWhere test ss ≡ i
+  unfolding firstWhere
+  where-is [] d i h e before = absurd (not-suc-le-zero h)
+  where-is (s ∷ ss) d zero h e before = rw e
+  where-is (s ∷ ss) d (suc i) h e before = rw (before 0 (omega arith)) (ap suc (where-is ss d i (le-of-suc-le-suc h) e (λ k less. before (suc k) (omega arith))))
+
+  -- none is found where the test holds of none
+  pub where-none : (ss : List (List ℕ)) (d : List ℕ) → ((k : ℕ) → k < length ss → test (getD ss k d) ≡ false) → firstWhere test ss ≡ length ss
+  unfolding firstWhere
+  where-none [] d h = refl
+  where-none (s ∷ ss) d h = rw (h 0 (omega arith)) (ap suc (where-none ss d (λ k less. h (suc k) (omega arith))))
+
+  -- a slot that the test holds of is at or behind the one found
+  pub where-low : (ss : List (List ℕ)) (d : List ℕ) (i : ℕ) → test (getD ss i d) ≡ true → firstWhere test ss ≤ i
+  where-low ss d i e = go (ltb i (firstWhere test ss)) refl
+    where
+      go : (t : Bool) → ltb i (firstWhere test ss) ≡ t → firstWhere test ss ≤ i
+      go false t = ltb-false _ _ t
+      go true t = absurd (false≢true (sym (where-first ss d i (ltb-true _ _ t)) ∙ e))
+
+  -- ---- turn by turn
+
+  -- i slots of a buffer were looked at, and the test held of none
+  abbrev pub Passing : List ℕ → ℕ → Type 0
+  Passing b i = firstWhere test (slotsOf b) ≡ i + firstWhere test (drop i (slotsOf b))
+
+  module _ (b : List ℕ) (i : ℕ) (passed : Passing b i) where
+    -- the next slot
+    abbrev slot : List ℕ
+    slot = take spotWidth (drop (i * spotWidth) b)
+
+    first-slot : i < length b / spotWidth → drop i (slotsOf b) ≡ slot ∷ drop (i + 1) (slotsOf b)
+    first-slot h =
+        let l : i < length (slotsOf b) = omega (arith, count-of b) in
+        rw (drop-cons (slotsOf b) i [] l, slot-at (length b / spotWidth) b i [] h, add-one)
+
+    pub where-next : i < length b / spotWidth → test slot ≡ false → Passing b (i + 1)
+    unfolding firstWhere
+    where-next h e =
+        let next : (n : ℕ) → i + suc n ≡ i + 1 + n = λ n. omega arith in
+        passed ∙ rw (first-slot h, e) (next (firstWhere test (drop (i + 1) (slotsOf b))))
+
+    pub where-here : i < length b / spotWidth → test slot ≡ true → firstWhere test (slotsOf b) ≡ i
+    unfolding firstWhere
+    where-here h e = let none : i + 0 ≡ i = omega arith in passed ∙ rw (first-slot h, e) none
+
+    pub where-end : length b / spotWidth ≤ i → firstWhere test (slotsOf b) ≡ i
+    unfolding firstWhere
+    where-end h =
+        let none : i + 0 ≡ i = omega arith in
+        passed ∙ rw (drop-of-length-le (slotsOf b) {i = i} (omega (arith, count-of b))) none
