@@ -14,4 +14,8 @@ pub use pyramid::octave_count;
 pub use samples::view;
 pub use scene::scene;
 pub use size::correct;
+pub use store::add;
+pub use store::clear;
+pub use store::close_up;
+pub use store::strike;
 pub use tables::read_set;

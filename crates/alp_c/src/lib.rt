@@ -2,6 +2,7 @@
 mod desking; // desking.rt: the table that two desks share
 mod feeding; // feeding.rt: the feed of columns
 mod scenes; // scenes.rt: whole scenes
+mod storing; // storing.rt: the store of a day's spots
 
 ghost use mathlib.Core.Path.{_≡_};
 ghost use mathlib.Core.List.{[], _∷_};
@@ -20,6 +21,10 @@ pub use desking::uramsheg_desk_write;
 pub use feeding::uramsheg_feed_column;
 pub use feeding::uramsheg_feed_start;
 pub use scenes::uramsheg_scene;
+pub use storing::uramsheg_store_add;
+pub use storing::uramsheg_store_clear;
+pub use storing::uramsheg_store_close_up;
+pub use storing::uramsheg_store_strike;
 use tables::Thresholds;
 
 // Lists the spots of four levels in the buffer out, under the set in the record set. Answers 0, with the count in value, or the refusal's number, with

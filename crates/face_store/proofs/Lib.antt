@@ -1,0 +1,2 @@
+-- What the store's face leaves of an outcome.
+pub mod FaceLaws
