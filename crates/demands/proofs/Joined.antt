@@ -1,19 +1,14 @@
 -- Detection's output, as written, is accepted by the join with the same rows and cols, whatever the map. Assumes nothing.
-use Prim.Native.Nat.{ℕ, zero, suc, _+_, _*_, _/_, _%_, _≤_, _<_}
+use Prim.Native.Nat.{ℕ, zero, suc, _+_, _*_, _≤_, _<_}
 use native.Mathlib.Omega.{arith}
 use mathlib.Core.Path.{_≡_, refl, sym, ap, subst, _∙_}
-use mathlib.Core.Bool.{Bool, true, false, not}
+use mathlib.Core.Bool.{true}
 use mathlib.Core.List.{List, [], _∷_}
 use lib.ListN.{length, getD, take, drop}
 use lib.Seq.{take-take}
-use lib.Dec.{ltb}
 use lib.Ieee.{Float}
-use borrow.Author.Tests.{le-ltb, eq-eqb}
 use Rattle.tables.specs.declared.Set.{Set}
 use Rattle.tables.specs.declared.Thresholds.{Thresholds}
-use Rattle.tables.specs.declared.Refusal.the-variants.{BadSet, Records, Room}
-use Rattle.tables.specs.declared.Checked.the-variants.{Fine, Bad}
-use Rattle.tables.specs.Refusal.{unless, firstOf}
 use Rattle.tables.specs.Set.{good}
 use Rattle.record.specs.declared.Record.{Record}
 use Rattle.record.specs.Layout.{spotWidth, recordAt, laid, written}
@@ -26,8 +21,7 @@ use Rattle.detect.specs.Due.{due}
 use Rattle.detect.specs.Detect.{Outcome, detectOf}
 use Rattle.detect.specs.declared.Answer.the-variants.{Found}
 use Rattle.detect.proofs.RefusalsLaws.{found-passed}
-use Rattle.sized.specs.Sized.{sizedWidth}
-use Rattle.join.specs.Join.{firstBad, joinChecks, joined, joinBy}
+use Rattle.join.proofs.TakenLaws.{Taken, taken-count, taken-records, taken-fine, taken-joined}
 use Rattle.demands.specs.List.{StandsAt}
 use Rattle.demands.specs.Joined.{Joins}
 use Rattle.demands.proofs.Accepted.{join-accepts}
@@ -49,22 +43,6 @@ unfolding StandsAt
 stands-there [] i d h = let z : ⊥ = omega arith in absurd z
 stands-there (r ∷ rs) zero d h = refl
 stands-there (r ∷ rs) (suc i) d h = stands-there rs i d (omega arith)
-
--- ---- the join's checks
-
--- none of n readable records is the first bad one
-none-bad : (rows cols : ℕ) (b : List ℕ) (n i : ℕ) → ((k : ℕ) → i ≤ k → k < i + n → readable rows cols (recordAt b k) ≡ true) → firstBad false rows cols b n i ≡ i + n
-unfolding firstBad
-none-bad rows cols b zero i all = omega arith
-none-bad rows cols b (suc n) i all =
-    rw (all i (omega arith) (omega arith)) (none-bad rows cols b n (suc i) (λ k p q. all k (omega arith) (omega arith)) ∙ omega arith)
-
--- a bad set or a short room is not a bad record
-set-or-room : (a b : Bool) (i : ℕ) → unless a BadSet (unless b Room Fine) ≡ Bad (Records i) → ⊥
-unfolding unless
-set-or-room true b i h = let z : _≡_ {A = ℕ} 0 1 = cc in omega arith
-set-or-room false true i h = let z : _≡_ {A = ℕ} 0 1 = cc in omega arith
-set-or-room false false i h = let z : _≡_ {A = ℕ} 0 1 = cc in omega arith
 
 -- ---- records laid in a buffer
 
@@ -92,33 +70,20 @@ module _ (m : Maps) (out : List ℕ) (rows-most : m .frame .rows ≤ 4096) (cols
   read-readable : (i : ℕ) → i < count → readable (m .frame .rows) (m .frame .cols) (recordAt bytes i) ≡ true
   read-readable i h = join-accepts m _ (record { place = i; there = read-back i h })
 
-  -- of the join's checks only the set's and the room's are open
-  checks-open : (t : Set) (room : ℕ) → firstOf (joinChecks false t (m .frame .rows) (m .frame .cols) bytes room) ≡ unless (not (good t)) BadSet (unless (ltb room (count * sizedWidth)) Room Fine)
-  unfolding joinChecks firstOf unless
-  checks-open t room =
-      let whole : length bytes % spotWidth ≡ 0 = omega (arith, length-bytes) in
-      let number : length bytes / spotWidth ≡ count = omega (arith, length-bytes) in
-      let none : firstBad false (m .frame .rows) (m .frame .cols) bytes count 0 ≡ count = none-bad _ _ bytes count 0 (λ k p q. read-readable k (omega arith)) ∙ omega arith in
-      rw (le-ltb _ _ rows-most, le-ltb _ _ cols-most, eq-eqb _ _ whole, number, none, le-ltb count count (omega arith))
-
-  -- and with a good set and room for the sized records they pass
-  room-enough : (t : Set) (room : ℕ) → good t ≡ true → count * sizedWidth ≤ room → firstOf (joinChecks false t (m .frame .rows) (m .frame .cols) bytes room) ≡ Fine
-  unfolding unless
-  room-enough t room is-good h = checks-open t room ∙ rw (is-good, le-ltb _ _ h)
+  -- so the join takes them
+  taken : Taken (m .frame .rows) (m .frame .cols) count bytes
+  taken = record { rows-most = rows-most; cols-most = cols-most; long = length-bytes; fair = read-readable }
 
   joins : Joins (m .frame .rows) (m .frame .cols) (due m) count bytes
-  unfolding joinBy joined
-  joins =
-      let number : length bytes / spotWidth ≡ count = omega (arith, length-bytes) in
-      record {
-        whole = omega (arith, length-bytes);
-        count-is = number;
-        as-found = read-back;
-        each-readable = read-readable;
-        not-records = λ t room i h. set-or-room (not (good t)) (ltb room (count * sizedWidth)) i (sym (checks-open t room) ∙ h);
-        fine = λ t room is-good h. room-enough t room is-good (omega arith);
-        answer = λ t out' is-good h. rw (room-enough t (length out') is-good (omega arith), number);
-      }
+  joins = record {
+    whole = omega (arith, length-bytes);
+    count-is = taken-count _ _ count bytes taken;
+    as-found = read-back;
+    each-readable = read-readable;
+    not-records = λ s room i h. taken-records _ _ count bytes taken s room i h;
+    fine = λ s room is-good h. taken-fine _ _ count bytes taken s room is-good (omega arith);
+    answer = λ s out' is-good h. taken-joined _ _ count bytes taken s out' is-good (omega arith);
+  }
 
 -- ---- a call
 

@@ -3,3 +3,4 @@ pub mod CheckLaws
 pub mod SizedLaws
 pub mod JoinLaws
 pub mod RefusalsLaws
+pub mod TakenLaws

@@ -179,7 +179,8 @@ module _ (c : Call) (b : List ℕ) where
   unfolding callOf finished
   call-refused r h = rw h
 
-  refusal-of : (r : Refusal) → callOf c b .answer ≡ Refused r → firstOf (callChecks c b) ≡ Bad r
+  -- what is refused is what a check refused
+  pub refusal-of : (r : Refusal) → callOf c b .answer ≡ Refused r → firstOf (callChecks c b) ≡ Bad r
   unfolding callOf
   refusal-of r e = answer-refused _ b _ r (never-refused c (slotsOf b)) e
 

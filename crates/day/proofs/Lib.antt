@@ -1,0 +1,4 @@
+-- What holds of a store, whatever is called.
+pub mod Simulation
+pub mod Slots
+pub mod Lists
