@@ -3,13 +3,13 @@ use Prim.Native.Nat.{ℕ, zero, suc, _+_, _*_, _/_, _≤_, _<_}
 use native.Mathlib.Nat.{not-suc-le-zero, le-of-suc-le-suc}
 use native.Mathlib.Numerals.{add-one}
 use native.Mathlib.Omega.{arith}
-use mathlib.Core.Bool.{Bool, true, false, cond, false≢true}
+use mathlib.Core.Bool.{Bool, true, false, cond, _&&_, false≢true}
 use mathlib.Core.Path.{_≡_, refl, sym, ap, _∙_}
 use mathlib.Core.List.{List, [], _∷_}
-use lib.Dec.{ltb}
+use lib.Dec.{ltb, eqb}
 use lib.ListN.{length, getD, take, drop, drop-of-length-le}
 use lib.Seq.{drop-cons}
-use borrow.Author.Tests.{ltb-true, ltb-false}
+use borrow.Author.Tests.{ltb-true, ltb-false, eq-eqb}
 use Rattle.record.specs.Layout.{spotWidth}
 use Rattle.store.specs.Slots.{slotsOf, firstWhere}
 use Rattle.store.proofs.SlotLaws.{count-of, slot-at}
@@ -72,32 +72,56 @@ module _ (test : List ℕ → Bool) where
 
   -- ---- turn by turn
 
-  -- i slots of a buffer were looked at, and the test held of none
-  abbrev pub Passing : List ℕ → ℕ → Type 0
-  Passing b i = firstWhere test (slotsOf b) ≡ i + firstWhere test (drop i (slotsOf b))
+  -- the first i slots of a buffer were looked at: the test held of none, and found is their number; or found is the first that it holds of
+  pub data Searched (b : List ℕ) (i found : ℕ) : Type 0 where
+    Not-yet : found ≡ length b / spotWidth → firstWhere test (slotsOf b) ≡ i + firstWhere test (drop i (slotsOf b)) → Searched b i found
+    Here : found < length b / spotWidth → firstWhere test (slotsOf b) ≡ found → Searched b i found
 
-  module _ (b : List ℕ) (i : ℕ) (passed : Passing b i) where
-    -- the next slot
-    abbrev slot : List ℕ
-    slot = take spotWidth (drop (i * spotWidth) b)
+  module _ (b : List ℕ) where
+    pub searched-start : Searched b 0 (length b / spotWidth)
+    searched-start = Not-yet refl (omega arith)
 
-    first-slot : i < length b / spotWidth → drop i (slotsOf b) ≡ slot ∷ drop (i + 1) (slotsOf b)
-    first-slot h =
-        let l : i < length (slotsOf b) = omega (arith, count-of b) in
-        rw (drop-cons (slotsOf b) i [] l, slot-at (length b / spotWidth) b i [] h, add-one)
+    module _ (i found : ℕ) (s : Searched b i found) (yet : found ≡ length b / spotWidth) (inside : i < length b / spotWidth) where
+      -- the next slot
+      abbrev slot : List ℕ
+      slot = take spotWidth (drop (i * spotWidth) b)
 
-    pub where-next : i < length b / spotWidth → test slot ≡ false → Passing b (i + 1)
+      passed : firstWhere test (slotsOf b) ≡ i + firstWhere test (slot ∷ drop (i + 1) (slotsOf b))
+      passed = go s
+        where
+          first : drop i (slotsOf b) ≡ slot ∷ drop (i + 1) (slotsOf b)
+          first =
+              let l : i < length (slotsOf b) = omega (arith, count-of b) in
+              rw (drop-cons (slotsOf b) i [] l, slot-at (length b / spotWidth) b i [] inside, add-one)
+
+          go : Searched b i found → firstWhere test (slotsOf b) ≡ i + firstWhere test (slot ∷ drop (i + 1) (slotsOf b))
+          go (Not-yet e p) = p ∙ rw first
+          go (Here l e) = let z : ⊥ = omega arith in absurd z
+
+      pub searched-here : test slot ≡ true → Searched b (i + 1) i
+      unfolding firstWhere
+      searched-here e = let none : i + 0 ≡ i = omega arith in Here inside (passed ∙ rw e none)
+
+      pub searched-next : test slot ≡ false → Searched b (i + 1) found
+      unfolding firstWhere
+      searched-next e =
+          let next : (n : ℕ) → i + suc n ≡ i + 1 + n = λ n. omega arith in
+          Not-yet yet (passed ∙ rw e (next (firstWhere test (drop (i + 1) (slotsOf b)))))
+
+    -- where all slots were looked at, or one was found, it is told
+    pub searched-end : (i found : ℕ) → Searched b i found → i ≤ length b / spotWidth → (found ≡ length b / spotWidth → length b / spotWidth ≤ i) → found ≡ firstWhere test (slotsOf b)
     unfolding firstWhere
-    where-next h e =
-        let next : (n : ℕ) → i + suc n ≡ i + 1 + n = λ n. omega arith in
-        passed ∙ rw (first-slot h, e) (next (firstWhere test (drop (i + 1) (slotsOf b))))
-
-    pub where-here : i < length b / spotWidth → test slot ≡ true → firstWhere test (slotsOf b) ≡ i
-    unfolding firstWhere
-    where-here h e = let none : i + 0 ≡ i = omega arith in passed ∙ rw (first-slot h, e) none
-
-    pub where-end : length b / spotWidth ≤ i → firstWhere test (slotsOf b) ≡ i
-    unfolding firstWhere
-    where-end h =
+    searched-end i found (Not-yet e p) most all =
+        let rest : drop i (slotsOf b) ≡ [] = drop-of-length-le (slotsOf b) {i = i} (omega (arith, count-of b, all e)) in
         let none : i + 0 ≡ i = omega arith in
-        passed ∙ rw (drop-of-length-le (slotsOf b) {i = i} (omega (arith, count-of b))) none
+        let told : firstWhere test (slotsOf b) ≡ i = p ∙ rw rest none in
+        omega (arith, all e)
+    searched-end i found (Here l e) most all = sym e
+
+-- a loop over n slots ended without having found one only where it looked at all
+pub loop-over : (i found n : ℕ) → (ltb i n && eqb found n) ≡ false → found ≡ n → n ≤ i
+loop-over i found n e h = go (ltb i n) refl (rw (eq-eqb found n h) at e)
+  where
+    go : (t : Bool) → ltb i n ≡ t → (t && true) ≡ false → n ≤ i
+    go true l f = absurd (false≢true (sym f))
+    go false l f = ltb-false i n l

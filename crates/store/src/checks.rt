@@ -48,11 +48,12 @@ pub fn add(rows: usize, cols: usize, spot: &[u8], b: &[u8], free: usize) -> Chec
     match check {
         Checked::Bad(why) => Checked::Bad(why),
         Checked::Fine => {
-            let count = b.len() / SPOT_WIDTH;
-            if !is_good_new(rows, cols, spot) {
-                return Checked::Bad(Refusal::Records(count));
+            let slots = b.len() / SPOT_WIDTH;
+            let good = is_good_new(rows, cols, spot);
+            if !good {
+                return Checked::Bad(Refusal::Records(slots));
             }
-            if count <= free {
+            if slots <= free {
                 return Checked::Bad(Refusal::Room);
             }
             Checked::Fine

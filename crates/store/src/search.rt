@@ -15,16 +15,17 @@ pub fn first_bad(rows: usize, cols: usize, b: &[u8]) -> usize
     ensures { λ r. ⌜ r ≡ firstWhere (badSlot rows cols) (slotsOf (now (b .entry))) ⌝ }
 {
     let count = b.len() / SPOT_WIDTH;
+    let mut bad = count;
     let mut i: usize = 0;
-    while i < count {
+    while (i < count) & (bad == count) {
         let at = i * SPOT_WIDTH;
         let end = at + SPOT_WIDTH;
         if slot::is_bad(rows, cols, &b[at..end]) {
-            return i;
+            bad = i;
         }
         i += 1;
     }
-    i
+    bad
 }
 
 // The place of the lowest free slot; their number where none is.
@@ -32,16 +33,17 @@ pub fn first_free(b: &[u8]) -> usize
     ensures { λ r. ⌜ r ≡ firstWhere isFree (slotsOf (now (b .entry))) ⌝ }
 {
     let count = b.len() / SPOT_WIDTH;
+    let mut free = count;
     let mut i: usize = 0;
-    while i < count {
+    while (i < count) & (free == count) {
         let at = i * SPOT_WIDTH;
         let end = at + SPOT_WIDTH;
         if slot::is_free(&b[at..end]) {
-            return i;
+            free = i;
         }
         i += 1;
     }
-    i
+    free
 }
 
 // Whether the slot i holds a record; past the end none does.

@@ -1,25 +1,28 @@
 -- `search::first_bad` meets its contract.
 use borrow.Author.Needs.{needs}
+use borrow.Author.Tests.{ltb-true, eqb-true}
 use Prim.Native.Nat.{_-_, _*_, _/_, _≤_}
-use native.Mathlib.Nat.{zero-add}
 use native.Mathlib.Omega.{arith}
+use mathlib.Core.Logic.{⊎-elim}
 use mathlib.Core.Path.{sym, _∙_}
+use lib.Dec.{ltb, eqb}
 use lib.ListN.{length}
+use Rattle.float.proofs.Bools.{both}
 use Rattle.record.specs.Layout.{spotWidth}
 use Rattle.store.specs.Store.{badSlot}
 use Rattle.store.proofs.SlotLaws.{part-slot, part-length}
-use Rattle.store.proofs.SearchLaws.{Passing, where-next, where-here, where-end}
+use Rattle.store.proofs.SearchLaws.{Searched, searched-start, searched-here, searched-next, searched-end, loop-over}
 use Rattle.store.proofs.search.first_bad.Statement.{statement}
 use Rattle.store.proofs.search.first_bad.Tie as tie
 
 abbrev Inv-loop : tie.InvT-loop
-Inv-loop rows cols b count i₀ i = (i ≤ length b / spotWidth) × (Passing (badSlot rows cols) b i)
+Inv-loop rows cols b count bad₀ i₀ bad i = (i ≤ length b / spotWidth) × Searched (badSlot rows cols) b i bad
 
 abbrev μ-loop : tie.MeasureT-loop
-μ-loop rows cols b count i₀ i = length b / spotWidth - i
+μ-loop rows cols b count bad₀ i₀ bad i = length b / spotWidth - i
 
 loop-holds : tie.Need-loop-holds Inv-loop μ-loop
-loop-holds c = (omega arith, sym (zero-add _))
+loop-holds c = let a = c .before .args in (omega arith, searched-start (badSlot (a .rows) (a .cols)) (a .b .now))
 
 mul-at : tie.Need-mul-at Inv-loop μ-loop
 mul-at c = omega arith
@@ -34,36 +37,45 @@ part-is-bad-start : tie.Need-part-is-bad-start Inv-loop μ-loop
 part-is-bad-start c = search needs
 
 part-is-bad-end : tie.Need-part-is-bad-end Inv-loop μ-loop
-part-is-bad-end c = omega arith
+part-is-bad-end c =
+    let a = c .before .before .before .args in
+    let l = c .before .loop in
+    omega (arith, ltb-true (l .i) (length (a .b .now) / spotWidth) (both _ _ (c .loop-test .taken) .0))
 
 is-bad-requires : tie.Need-is-bad-requires Inv-loop μ-loop
 is-bad-requires c κs =
     let a = c .before .before .before .before .args in
-    (omega arith, (omega arith, part-length (a .b .now) (c .before .before .loop .i * spotWidth) (omega arith)))
-
-returns : tie.Need-returns Inv-loop μ-loop
-returns c =
-    let l = c .before .before .before .before .loop in
-    let a = c .before .before .before .before .before .before .args in
-    sym (where-here (badSlot (a .rows) (a .cols)) (a .b .now) (l .i) (l .inv .1) (omega arith) (rw (← part-slot (a .b .now) (l .i * spotWidth)) (sym (c .before .is-bad .ensures) ∙ c .if1 .taken)))
+    let l = c .before .before .loop in
+    let inside = ltb-true (l .i) (length (a .b .now) / spotWidth) (both _ _ (c .before .loop-test .taken) .0) in
+    (omega arith, (omega arith, part-length (a .b .now) (l .i * spotWidth) (omega arith)))
 
 add-i : tie.Need-add-i Inv-loop μ-loop
 add-i c = omega arith
 
 loop-less : tie.Need-loop-less Inv-loop μ-loop
-loop-less c = omega arith
+loop-less c =
+    let a = c .before .before .before .before .before .before .args in
+    let l = c .before .before .before .before .loop in
+    omega (arith, ltb-true (l .i) (length (a .b .now) / spotWidth) (both _ _ (c .before .before .before .loop-test .taken) .0))
 
 loop-again : tie.Need-loop-again Inv-loop μ-loop
 loop-again c =
-    let l = c .before .before .before .before .loop in
     let a = c .before .before .before .before .before .before .args in
-    (omega arith, where-next (badSlot (a .rows) (a .cols)) (a .b .now) (l .i) (l .inv .1) (omega arith) (rw (← part-slot (a .b .now) (l .i * spotWidth)) (sym (c .before .is-bad .ensures) ∙ c .if1 .left)))
+    let l = c .before .before .before .before .loop in
+    let test = both (ltb (l .i) (length (a .b .now) / spotWidth)) (eqb (l .bad) (length (a .b .now) / spotWidth)) (c .before .before .before .loop-test .taken) in
+    let inside = ltb-true (l .i) (length (a .b .now) / spotWidth) (test .0) in
+    let yet = eqb-true (l .bad) (length (a .b .now) / spotWidth) (test .1) in
+    let own = part-slot (a .b .now) (l .i * spotWidth) in
+    ⊎-elim
+    (λ w. rw (w .1) (omega arith, searched-here (badSlot (a .rows) (a .cols)) (a .b .now) (l .i) (l .bad) (l .inv .1) yet inside (rw (← own) (sym (c .before .is-bad .ensures) ∙ w .0 .taken))))
+    (λ w. rw (w .1) (omega arith, searched-next (badSlot (a .rows) (a .cols)) (a .b .now) (l .i) (l .bad) (l .inv .1) yet inside (rw (← own) (sym (c .before .is-bad .ensures) ∙ w .0 .left))))
+    (c .if1 .came)
 
-returns-2 : tie.Need-returns-2 Inv-loop μ-loop
-returns-2 c =
-    let l = c .before .loop in
+returns : tie.Need-returns Inv-loop μ-loop
+returns c =
     let a = c .before .before .before .args in
-    sym (where-end (badSlot (a .rows) (a .cols)) (a .b .now) (l .i) (l .inv .1) (omega arith))
+    let l = c .before .loop in
+    searched-end (badSlot (a .rows) (a .cols)) (a .b .now) (l .i) (l .bad) (l .inv .1) (l .inv .0) (loop-over (l .i) (l .bad) (length (a .b .now) / spotWidth) (c .loop-test .left))
 
 pub first-bad-spec : {M : Type 1} → statement M
 first-bad-spec =
@@ -78,8 +90,7 @@ first-bad-spec =
     part-is-bad-start
     part-is-bad-end
     is-bad-requires
-    returns
     add-i
     loop-less
     loop-again
-    returns-2)
+    returns)
