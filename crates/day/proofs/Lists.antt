@@ -3,7 +3,7 @@
 use Prim.Native.Nat.{ℕ, zero, suc, _+_, _-_, _*_, _/_, _≤_, _<_}
 use native.Mathlib.Nat.{not-suc-le-zero, le-of-suc-le-suc}
 use native.Mathlib.Omega.{arith}
-use mathlib.Core.Bool.{Bool, true, false, not, cond, _||_}
+use mathlib.Core.Bool.{Bool, true, false, not, cond, _||_, false≢true}
 use mathlib.Core.Path.{_≡_, refl, sym, ap, _∙_}
 use mathlib.Core.List.{List, [], _∷_, _++_, append-assoc}
 use lib.ListN.{length, getD, take, replicate}
@@ -107,7 +107,7 @@ module _ (rows cols n : ℕ) (b : List ℕ) (closed : callOf (CloseUp rows cols)
   held = liveSlots (slotsOf b)
 
   fine : firstOf (callChecks (CloseUp rows cols) b) ≡ Fine
-  fine = done-fine (CloseUp rows cols) b (λ r f. let z : _≡_ {A = ℕ} 0 1 = cc in let w : ⊥ = omega (arith, z) in w)
+  fine = done-fine (CloseUp rows cols) b (λ r f. false≢true cc)
 
   after-is : callOf (CloseUp rows cols) b ≡ outcome (Live (length held)) (flat (closedUp (slotsOf b)))
   unfolding answerOf slotsAfter

@@ -1,7 +1,7 @@
 -- Which slot an add takes, when none is free, what a strike gives back, and what closing up leaves. Assumes nothing.
 use Prim.Native.Nat.{ℕ, _/_, _%_, _≤_, _<_}
 use native.Mathlib.Omega.{arith}
-use mathlib.Core.Bool.{Bool, true, false}
+use mathlib.Core.Bool.{Bool, true, false, false≢true}
 use mathlib.Core.Path.{_≡_, refl, sym, ap, _∙_}
 use mathlib.Core.List.{List, []}
 use lib.Dec.{eqb}
@@ -18,6 +18,7 @@ use Rattle.store.specs.declared.Stored.the-variants.{Done, At, Refused}
 use Rattle.store.proofs.SlotLaws.{free-is-free, count-of, slotsOf-flat, past-free, live-inside}
 use Rattle.store.proofs.SearchLaws.{where-holds, where-first, where-is, where-none}
 use Rattle.store.proofs.StoreLaws.{Passed, strike-passed, add-passed, add-over, strike-over, sized-after, call-done, call-refused, refusal-of, done-fine, length-kept}
+use Rattle.day.proofs.Refusals.{free-fair}
 use Rattle.day.specs.Claims.{slotAt, Lowest, Full}
 
 -- ---- what every call but clearing asks
@@ -47,16 +48,12 @@ spot-said false false true y j k e = cc
 spot-said false false false true j k e = refl
 spot-said false false false false j k e = cc
 
-free-fair : (rows cols : ℕ) → badSlot rows cols freeBytes ≡ false
-unfolding badSlot
-free-fair rows cols = rw free-is-free
-
 module _ (b : List ℕ) where
   -- ---- adding
 
   module _ (rows cols : ℕ) (new : List ℕ) where
     at-fine : (i : ℕ) → callOf (Add rows cols new) b .answer ≡ At i → firstOf (callChecks (Add rows cols new) b) ≡ Fine
-    at-fine i e = done-fine (Add rows cols new) b (λ r f. let z : _≡_ {A = ℕ} 0 1 = cc in let w : ⊥ = omega (arith, z) in w)
+    at-fine i e = done-fine (Add rows cols new) b (λ r f. false≢true cc)
 
     at-is : (i : ℕ) → callOf (Add rows cols new) b .answer ≡ At i → i ≡ firstWhere isFree (slotsOf b)
     unfolding answerOf
@@ -108,7 +105,7 @@ module _ (b : List ℕ) where
 
   module _ (rows cols i : ℕ) where
     struck-fine : callOf (Strike rows cols i) b .answer ≡ Done → firstOf (callChecks (Strike rows cols i) b) ≡ Fine
-    struck-fine e = done-fine (Strike rows cols i) b (λ r f. let z : _≡_ {A = ℕ} 0 1 = cc in let w : ⊥ = omega (arith, z) in w)
+    struck-fine e = done-fine (Strike rows cols i) b (λ r f. false≢true cc)
 
     -- what is struck was live
     pub struck-live : callOf (Strike rows cols i) b .answer ≡ Done → isFree (slotAt b i) ≡ false

@@ -3,7 +3,7 @@
 use Prim.Native.Nat.{ℕ, _-_, _/_, _%_, _≤_, _<_}
 use native.Mathlib.Nat.{le-trans}
 use native.Mathlib.Omega.{arith}
-use mathlib.Core.Bool.{Bool, true, false, cond}
+use mathlib.Core.Bool.{Bool, true, false, cond, false≢true}
 use mathlib.Core.Path.{_≡_, refl, sym, ap, _∙_}
 use mathlib.Core.List.{List, [], _∷_, _++_}
 use lib.Dec.{eqb}
@@ -163,10 +163,10 @@ answer-refused Fine b o r n e = absurd (n r e)
 
 never-refused : (c : Call) (ss : List (List ℕ)) (q : Refusal) → answerOf c ss ≡ Refused q → ⊥
 unfolding answerOf
-never-refused Clear ss q e = let never : _≡_ {A = ℕ} 0 1 = cc in let z : ⊥ = omega (arith, never) in z
-never-refused (Add rows cols new) ss q e = let never : _≡_ {A = ℕ} 0 1 = cc in let z : ⊥ = omega (arith, never) in z
-never-refused (Strike rows cols i) ss q e = let never : _≡_ {A = ℕ} 0 1 = cc in let z : ⊥ = omega (arith, never) in z
-never-refused (CloseUp rows cols) ss q e = let never : _≡_ {A = ℕ} 0 1 = cc in let z : ⊥ = omega (arith, never) in z
+never-refused Clear ss q e = false≢true cc
+never-refused (Add rows cols new) ss q e = false≢true cc
+never-refused (Strike rows cols i) ss q e = false≢true cc
+never-refused (CloseUp rows cols) ss q e = false≢true cc
 
 module _ (c : Call) (b : List ℕ) where
   -- what no check refuses is done
