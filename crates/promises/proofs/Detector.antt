@@ -34,6 +34,10 @@ use Rattle.desks.proofs.claim as claim
 use Rattle.desks.proofs.write as write
 use Rattle.desks.proofs.release as release
 use Rattle.desk_run.proofs.run as desk-run
+use Rattle.store.proofs.clear as clear
+use Rattle.store.proofs.add as add
+use Rattle.store.proofs.strike as strike
+use Rattle.store.proofs.close_up as close-up
 use Rattle.join.proofs.join as join
 use Rattle.join.proofs.join_old as join-old
 use Rattle.size.proofs.correct as correct
@@ -159,6 +163,20 @@ module _ {M : Type 1} (𝓤 : URA M) (H : Heap 𝓤) (A : Atoms 𝓤) (mem : Mem
 
   pub run-settled : Settles 𝓤 desk-run.ended (desk-run.clauses 𝓤 H A mem run)
   run-settled κs a g g' r r' ws ws' = one-value 𝓤 _ _ _ (λ x. x .answer) (λ x. untouched 10 (x .buffer, tt))
+
+  -- ---- the store: a call's answer and the whole buffer
+
+  pub clear-settled : Settles 𝓤 clear.ended (clear.clauses 𝓤 H A mem run)
+  clear-settled κs a g g' r r' ws ws' = one-value 𝓤 _ _ _ (λ x. x .answer) (λ x. (x .buffer, tt))
+
+  pub add-settled : Settles 𝓤 add.ended (add.clauses 𝓤 H A mem run)
+  add-settled κs a g g' r r' ws ws' = one-value 𝓤 _ _ _ (λ x. x .answer) (λ x. (x .buffer, untouched 3 tt))
+
+  pub strike-settled : Settles 𝓤 strike.ended (strike.clauses 𝓤 H A mem run)
+  strike-settled κs a g g' r r' ws ws' = one-value 𝓤 _ _ _ (λ x. x .answer) (λ x. (x .buffer, untouched 3 tt))
+
+  pub close-up-settled : Settles 𝓤 close-up.ended (close-up.clauses 𝓤 H A mem run)
+  close-up-settled κs a g g' r r' ws ws' = one-value 𝓤 _ _ _ (λ x. x .answer) (λ x. (x .buffer, untouched 2 tt))
 
   -- ---- a level and its view
 

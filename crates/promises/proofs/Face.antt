@@ -21,6 +21,10 @@ use Rattle.alp_c.proofs.uramsheg_desk_claim as uramsheg-desk-claim
 use Rattle.alp_c.proofs.uramsheg_desk_write as uramsheg-desk-write
 use Rattle.alp_c.proofs.uramsheg_desk_release as uramsheg-desk-release
 use Rattle.alp_c.proofs.uramsheg_desk_run as uramsheg-desk-run
+use Rattle.alp_c.proofs.uramsheg_store_clear as uramsheg-store-clear
+use Rattle.alp_c.proofs.uramsheg_store_add as uramsheg-store-add
+use Rattle.alp_c.proofs.uramsheg_store_strike as uramsheg-store-strike
+use Rattle.alp_c.proofs.uramsheg_store_close_up as uramsheg-store-close-up
 use Rattle.promises.specs.Settles.{Settles}
 use Rattle.promises.proofs.Facts.{one-value, one-answer, untouched}
 
@@ -71,3 +75,15 @@ module _ {M : Type 1} (𝓤 : URA M) (H : Heap 𝓤) (A : Atoms 𝓤) (mem : Mem
 
   pub uramsheg-desk-run-settled : Settles 𝓤 uramsheg-desk-run.ended (uramsheg-desk-run.clauses 𝓤 H A mem run)
   uramsheg-desk-run-settled κs a g g' r r' ws ws' = one-value 𝓤 _ _ _ (λ x. x .number) (λ x. untouched 14 (x .buffer, (x .value, tt)))
+
+  pub uramsheg-store-clear-settled : Settles 𝓤 uramsheg-store-clear.ended (uramsheg-store-clear.clauses 𝓤 H A mem run)
+  uramsheg-store-clear-settled κs a g g' r r' ws ws' = one-value 𝓤 _ _ _ (λ x. x .number) (λ x. (x .buffer, (x .value, tt)))
+
+  pub uramsheg-store-add-settled : Settles 𝓤 uramsheg-store-add.ended (uramsheg-store-add.clauses 𝓤 H A mem run)
+  uramsheg-store-add-settled κs a g g' r r' ws ws' = one-value 𝓤 _ _ _ (λ x. x .number) (λ x. (x .buffer, untouched 3 (x .value, tt)))
+
+  pub uramsheg-store-strike-settled : Settles 𝓤 uramsheg-store-strike.ended (uramsheg-store-strike.clauses 𝓤 H A mem run)
+  uramsheg-store-strike-settled κs a g g' r r' ws ws' = one-value 𝓤 _ _ _ (λ x. x .number) (λ x. (x .buffer, untouched 3 (x .value, tt)))
+
+  pub uramsheg-store-close-up-settled : Settles 𝓤 uramsheg-store-close-up.ended (uramsheg-store-close-up.clauses 𝓤 H A mem run)
+  uramsheg-store-close-up-settled κs a g g' r r' ws ws' = one-value 𝓤 _ _ _ (λ x. x .number) (λ x. (x .buffer, untouched 2 (x .value, tt)))

@@ -1,0 +1,2 @@
+-- The worked cases of a store.
+pub mod Store
