@@ -211,6 +211,31 @@ pub mod raw {
             out_length: usize,
             value: *mut u64,
         ) -> u32;
+        pub fn uramsheg_store_clear(store: *mut u8, store_length: usize, value: *mut u64) -> u32;
+        pub fn uramsheg_store_add(
+            store: *mut u8,
+            store_length: usize,
+            rows: usize,
+            cols: usize,
+            spot: *const u8,
+            spot_length: usize,
+            value: *mut u64,
+        ) -> u32;
+        pub fn uramsheg_store_strike(
+            store: *mut u8,
+            store_length: usize,
+            rows: usize,
+            cols: usize,
+            slot: usize,
+            value: *mut u64,
+        ) -> u32;
+        pub fn uramsheg_store_close_up(
+            store: *mut u8,
+            store_length: usize,
+            rows: usize,
+            cols: usize,
+            value: *mut u64,
+        ) -> u32;
     }
 }
 

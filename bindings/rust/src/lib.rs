@@ -1,5 +1,5 @@
 //! Uramsheg's detector for Rust. Every call ends, whatever it is given, and a refused call writes nothing, but for a scene's that is `Refusal::Full`; what each
-//! promises is proved (docs/PROMISES.md). The layouts of sets, of records and of tables stand in include/uramsheg.h.
+//! promises is proved (docs/PROMISES.md). The layouts of sets, of records, of tables and of stores stand in include/uramsheg.h.
 
 #[cfg(feature = "detector")]
 mod desks;
@@ -14,7 +14,10 @@ mod owner;
 mod refusal;
 #[cfg(feature = "detector")]
 mod scene;
+mod slots;
 mod spot;
+#[cfg(feature = "detector")]
+mod store;
 
 #[cfg(feature = "detector")]
 pub use desks::{SET_BYTES, Slot, TABLE_BYTES, TABLE_SLOTS, Table};
@@ -36,6 +39,9 @@ pub use scene::{
     SCENE_BYTES, SCENE_LONGEST, SceneSpot, TILE_LENGTH, TILE_STEP, scene, scene_spots, tile_count,
     tile_pixels,
 };
+pub use slots::{BadStore, NoSpot};
 pub use spot::{
     OLD_SIZED_BYTES, OLD_SPOT_BYTES, OldSpot, SIZED_BYTES, SPOT_BYTES, SizedSpot, Spot,
 };
+#[cfg(feature = "detector")]
+pub use store::{FREE_SLOT, Store};

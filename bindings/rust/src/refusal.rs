@@ -1,12 +1,13 @@
 //! Why a call was refused, in words.
 
-use crate::{Missing, NotYours};
+use crate::{BadStore, Missing, NoSpot, NotYours};
 use std::fmt;
 
 /// Why a call was refused. Of the call's checks, in its order, the first that holds is answered: detection checks 1, 2, 3, 8, 4; the join, and that of old lists,
 /// 1, 4, 5 for the list's length, 5 for a record, 6; correction 4, 7; halving a level 1, 2, 6; making levels 1, 2, 3, 4, 6; a feed's start 1, 3, 8, 4, 6; its
 /// column 9, 2, 6; a scene 10, 2, 3, 8, 4, 6 for a tile slice, 6 for the records of a tile; a desk's claim 11, 12; its write 11, 12, 4; its release 11; a run from
-/// a table 11, then as detection.
+/// a table 11, then as detection; clearing a store 5; adding to one 1, 5 for the store's length, 5 for a slot, 5 for the record, 6; striking 1, 5, 5, 13; closing it
+/// up 1, 5, 5.
 #[derive(Clone, Copy, Debug, PartialEq, Eq)]
 pub enum Refusal {
     /// 1: rows or cols above 4,096, but for a scene.
@@ -19,10 +20,14 @@ pub enum Refusal {
     Set,
     /// 5: the list is not a whole number of records (the index is then their number), or the record at the index is bad.
     Records { index: usize },
+    /// 5 too: a store, or the record that is added to it, is bad, and why.
+    Store(BadStore),
     /// 6: the output, or one of the four, or a feed's ring or state, or a scene's tile slice, is shorter than needed.
     Room,
     /// 6 too: the records of a scene's tile don't fit in the rest of the output. It begins with those of the tiles before it, this many.
     Full { tiles: usize },
+    /// 6 too: none of a store's slots, this many, is free.
+    NoFreeSlot { slots: usize },
     /// 7: the spot has no size, and why.
     NoSize(Missing),
     /// 8: a threshold is not a number. `nan` tells which of peak, sigma, ratio, low and high are NaN.
@@ -35,6 +40,8 @@ pub enum Refusal {
     NotYours(NotYours),
     /// 12: the slot's write count is the largest, 4,294,967,295.
     Count,
+    /// 13: the store's slot holds no spot, and why.
+    NoSpot(NoSpot),
 }
 
 /// The thresholds' names, in their order.
@@ -43,7 +50,8 @@ const NAMES: [&str; 5] = ["peak", "sigma", "ratio", "low", "high"];
 impl Refusal {
     /// The refusal with a number and the value that goes with it, as the C functions answer them; None for a number, or a cause beside 7, that is none of
     /// theirs. Which threshold is NaN they do not say: the calls see it by those they were given. Nor do they say of 6 beside 0 whether it is `Room` or a
-    /// scene's first tile that does not fit: `scene` sees it by the tile slices. Nor why it is 11: a `Table` sees it by its slot.
+    /// scene's first tile that does not fit: `scene` sees it by the tile slices. Nor why it is 11: a `Table` sees it by its slot. Nor what is
+    /// wrong with a store beside 5, 6 and 13, which a `Store` sees by its slots.
     pub fn from_number(number: u32, value: usize) -> Option<Refusal> {
         Some(match number {
             1 => Refusal::Size,
@@ -59,6 +67,7 @@ impl Refusal {
             10 => Refusal::Scene,
             11 => Refusal::NotYours(NotYours::Unsaid),
             12 => Refusal::Count,
+            13 => Refusal::NoSpot(NoSpot::Unsaid),
             _ => return None,
         })
     }
@@ -69,14 +78,15 @@ impl Refusal {
             Refusal::Level => 2,
             Refusal::Octave => 3,
             Refusal::Set => 4,
-            Refusal::Records { .. } => 5,
-            Refusal::Room | Refusal::Full { .. } => 6,
+            Refusal::Records { .. } | Refusal::Store(_) => 5,
+            Refusal::Room | Refusal::Full { .. } | Refusal::NoFreeSlot { .. } => 6,
             Refusal::NoSize(_) => 7,
             Refusal::Thresholds { .. } => 8,
             Refusal::Past => 9,
             Refusal::Scene => 10,
             Refusal::NotYours(_) => 11,
             Refusal::Count => 12,
+            Refusal::NoSpot(_) => 13,
         }
     }
 }
@@ -103,6 +113,7 @@ impl fmt::Display for Refusal {
                 "the list is not a whole number of records, 48 bytes each (an old list's, which join_old takes, have 40), or its record {index} is bad for this \
                  map"
             ),
+            Refusal::Store(why) => why.fmt(f),
             Refusal::Room => write!(
                 f,
                 "the output, a feed's ring or state, or a scene's tile slice is too short: lend a longer one"
@@ -110,6 +121,10 @@ impl fmt::Display for Refusal {
             Refusal::Full { tiles } => write!(
                 f,
                 "the output is full after {tiles} whole tiles of the scene: lend a longer one"
+            ),
+            Refusal::NoFreeSlot { slots } => write!(
+                f,
+                "each of the store's {slots} slots holds a spot: strike a false one, or use a longer store"
             ),
             Refusal::NoSize(why) => why.fmt(f),
             Refusal::Thresholds { nan } => {
@@ -135,6 +150,7 @@ impl fmt::Display for Refusal {
                 f,
                 "the slot's write count is 4294967295, the largest: use another slot"
             ),
+            Refusal::NoSpot(why) => why.fmt(f),
         }
     }
 }

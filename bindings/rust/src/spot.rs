@@ -142,6 +142,29 @@ impl Spot {
     pub fn from_record(record: &[u8; SPOT_BYTES]) -> Spot {
         Spot::from_bytes(record)
     }
+
+    /// Its record, as detection writes it.
+    pub fn to_record(&self) -> [u8; SPOT_BYTES] {
+        let [s0, s1, s2, s3] = self.samples;
+        let floats = [self.x, self.y, self.sigma, self.peak, s0, s1, s2, s3];
+        let bytes = [
+            self.octave,
+            self.scale_index,
+            u8::from(self.is_max),
+            0, // a record's spare byte
+        ];
+        let words = floats.map(f32::to_le_bytes).into_iter().chain([
+            self.key.to_le_bytes(),
+            bytes,
+            self.dx.to_le_bytes(),
+            self.dy.to_le_bytes(),
+        ]);
+        let mut record = [0; SPOT_BYTES];
+        for (to, word) in record.as_chunks_mut().0.iter_mut().zip(words) {
+            *to = word;
+        }
+        record
+    }
 }
 
 impl OldSpot {

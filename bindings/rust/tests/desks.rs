@@ -1,8 +1,11 @@
 //! Two desks and their table of sets, request No. 9, through the archive.
 
 mod common;
+#[path = "common/histories.rs"]
+mod histories;
 
 use common::set_t;
+use histories::{Random, Tally};
 use std::collections::HashMap;
 use uramsheg::{
     Desk, Map, NotYours, Owner, Refusal, SET_BYTES, SPOT_BYTES, Slot, Spot, TABLE_BYTES,
@@ -23,24 +26,9 @@ const DESKS: [Desk; 2] = [Desk::Daily, Desk::Reprocessing];
 const OWNERS: usize = 4_224;
 const COUNTS: usize = 4_232;
 
-/// Numbers without a pattern, the same each time.
-struct Random(u64);
-
-impl Random {
-    fn below(&mut self, end: usize) -> usize {
-        let state = self.0.wrapping_mul(6_364_136_223_846_793_005);
-        self.0 = state.wrapping_add(1_442_695_040_888_963_407);
-        (self.0 >> 33) as usize % end
-    }
-
-    fn pick<T: Copy>(&mut self, some: &[T]) -> T {
-        some[self.below(some.len())]
-    }
-
-    /// A float from 0 on, below 1.
-    fn part(&mut self) -> f32 {
-        self.below(1 << 24) as f32 / 16_777_216.0
-    }
+/// A float from 0 on, below 1.
+fn part(random: &mut Random) -> f32 {
+    random.below(1 << 24) as f32 / 16_777_216.0
 }
 
 /// The sets that desks write, by number: five that are good and list other places, one whose last byte is bad, zeros, and two of other lengths, which no slot
@@ -289,23 +277,6 @@ fn word(call: Call, answer: &Result<Option<Vec<Spot>>, Refusal>) -> String {
         Ok(Some(spots)) => format!("{name} lists {}", spots.len()),
         Ok(None) => format!("{name} done"),
         Err(refusal) => format!("{name} refused {}", refusal.number()),
-    }
-}
-
-/// How often each word came.
-#[derive(Default)]
-struct Tally(HashMap<String, usize>);
-
-impl Tally {
-    fn add(&mut self, word: String) {
-        *self.0.entry(word).or_default() += 1;
-    }
-
-    fn assert_all(&self, words: &[&str], least: usize) {
-        for word in words {
-            let times = self.0.get(*word).copied().unwrap_or(0);
-            assert!(times >= least, "{word}: {times} times only");
-        }
     }
 }
 
@@ -610,8 +581,8 @@ fn a_run_lists_what_detection_lists() {
         let table = written(DESKS[round % 2], slot, STANDARD);
         let (rows, cols) = (20 + random.below(60), 20 + random.below(60));
         let levels = [0; 4].map(|_| -> Vec<f32> {
-            let height = random.part();
-            let pixel = |_| height * (random.part() - 0.5);
+            let height = part(&mut random);
+            let pixel = |_| height * (part(&mut random) - 0.5);
             (0..rows * cols).map(pixel).collect()
         });
         let map = Map {
@@ -621,11 +592,11 @@ fn a_run_lists_what_detection_lists() {
             levels: levels.each_ref().map(Vec::as_slice),
         };
         let thresholds = Thresholds {
-            peak: random.part() / 4.0,
-            sigma: 3.0 * random.part(),
-            ratio: 20.0 * random.part(),
-            low: 2.0 * random.part(),
-            high: 2.0 + 3.0 * random.part(),
+            peak: part(&mut random) / 4.0,
+            sigma: 3.0 * part(&mut random),
+            ratio: 20.0 * part(&mut random),
+            low: 2.0 * part(&mut random),
+            high: 2.0 + 3.0 * part(&mut random),
         };
         let room = random.below(40 * SPOT_BYTES);
         let [mut out, mut due] = [0; 2].map(|_| vec![0xa5; room]);

@@ -419,13 +419,13 @@ fn sets_are_checked() {
 
 #[test]
 fn refusals_have_their_numbers_and_words() {
-    for number in 1..=12 {
+    for number in 1..=13 {
         let refusal = Refusal::from_number(number, 2).unwrap();
         assert_eq!(refusal.number(), number);
         assert!(!refusal.to_string().is_empty());
     }
     assert_eq!(Refusal::from_number(0, 0), None);
-    assert_eq!(Refusal::from_number(13, 0), None);
+    assert_eq!(Refusal::from_number(14, 0), None);
     for cause in [0, 3, 257, usize::MAX] {
         assert_eq!(Refusal::from_number(7, cause), None);
     }
