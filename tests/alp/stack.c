@@ -1,5 +1,5 @@
-/* From C: how many bytes of stack levels, detection, the feed, a scene and a desk's run and write take, each on a painted stack of its own. PROCESSOR and a set's
- * file are given; says what failed. */
+/* From C: how many bytes of stack levels, detection, the feed, a scene, a desk's run and write and a store's calls take, each on a painted stack of its own.
+ * PROCESSOR and a set's file are given; says what failed. */
 #define _XOPEN_SOURCE 700
 #include <math.h>
 #include <stdint.h>
@@ -97,6 +97,19 @@ static void desk_write(void) {
 
 static void desk_run(void) { noise(run); }
 
+/* Each call on a long store, every second slot of it free at first. */
+static void store_calls(void) {
+    enum { SLOTS = 100000, SPOT = URAMSHEG_SPOT_BYTES };
+    static const uint8_t spot[SPOT] = {[37] = 1}; /* at the first pixel, of index 1 */
+    static uint8_t store[SPOT * SLOTS];
+    uint64_t value = 0;
+    is_done = !uramsheg_store_clear(store, sizeof store, &value);
+    for (size_t slot = 0; slot < SLOTS; slot += 2) memcpy(store + SPOT * slot, spot, SPOT);
+    is_done = is_done && !uramsheg_store_add(store, sizeof store, SIDE, SIDE, spot, SPOT, &value) && value == 1;
+    is_done = is_done && !uramsheg_store_strike(store, sizeof store, SIDE, SIDE, 0, &value);
+    is_done = is_done && !uramsheg_store_close_up(store, sizeof store, SIDE, SIDE, &value) && value == SLOTS / 2;
+}
+
 /* A tile of more than 2,730 spots is detected another way, so that one of them must have as many. */
 static void scene(void) {
     noise(cut);
@@ -134,5 +147,6 @@ int main(int count, char **words) {
     held = holds(words[1], "the feed", feed, 65536) && held;
     held = holds(words[1], "a scene", scene, 393216) && held;
     held = holds(words[1], "a desk's write", desk_write, 8192) && held;
-    return !(holds(words[1], "a desk's run", desk_run, 262144) && held);
+    held = holds(words[1], "a desk's run", desk_run, 262144) && held;
+    return !(holds(words[1], "a store's calls", store_calls, 8192) && held);
 }
