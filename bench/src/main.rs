@@ -1,10 +1,11 @@
 //! Times the four levels of a raw map: ours and the Rust's blur; then detection on several maps: ours, the Rust's reference and its streaming pass; then the
 //! feed on the same maps, and the sizing of the spots found: our join, and the Rust's correction. One thread, in one run. `bench [SIDE]`; `bench feed [SIDE]`
-//! times the feed alone, `bench sides` detection alone, on four sides, `bench scene [SIDE]` a whole scene.
+//! times the feed alone, `bench sides` detection alone, on four sides, `bench scene [SIDE]` a whole scene, `bench store` a store's calls.
 mod detection;
 mod feed;
 mod maps;
 mod scene;
+mod store;
 
 use judge::{Logs, RawMap, Set, fixed};
 use std::time::Instant;
@@ -88,7 +89,7 @@ fn fastest(mut run: impl FnMut() -> (f64, usize)) -> (f64, usize) {
 
 /// The side that a word says, or the usual one.
 fn side_of(word: Option<String>, usual: usize) -> usize {
-    let about = "bench [SIDE | feed [SIDE] | scene [SIDE] | sides]: SIDE is a whole number to 4096, a scene's to 16384";
+    let about = "bench [SIDE | feed [SIDE] | scene [SIDE] | sides | store]: SIDE is a whole number to 4096, a scene's to 16384";
     word.map_or(usual, |word| word.parse().expect(about))
 }
 
@@ -96,6 +97,9 @@ fn main() {
     let mut words = std::env::args().skip(1).peekable();
     if words.next_if_eq("sides").is_some() {
         return detection::sides();
+    }
+    if words.next_if_eq("store").is_some() {
+        return store::table();
     }
     if words.next_if_eq("scene").is_some() {
         return scene::table(side_of(words.next(), 8192));
