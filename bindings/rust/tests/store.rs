@@ -438,51 +438,54 @@ fn slots_that_are_none_of_the_stores_hold_nothing() {
     assert_eq!(store, before);
 }
 
+/// Whether a refusal begins with these words.
+fn assert_said<T: std::fmt::Debug>(answer: Result<T, Refusal>, due: &str) {
+    let said = answer.unwrap_err().to_string();
+    assert!(said.starts_with(due), "{said}");
+}
+
 #[test]
-fn the_refusals_of_a_store_say_what_is_wrong_and_what_to_do() {
-    let words = |answer: Result<(), Refusal>| answer.unwrap_err().to_string();
-    let mut store = store_of(&[Some(1)]);
-    let mut odd = Store::from_bytes(ROWS, COLS, [0; 50]);
-    let mut zeros = Store::from_bytes(ROWS, COLS, [0; 96]);
-    let off = Spot { x: 10.0, ..spot(1) };
-    for (said, due) in [
-        (
-            words(odd.clear()),
-            "a store is whole slots of 48 bytes each, and what is lent is 50 bytes long: lend a multiple of 48",
-        ),
-        (
-            words(zeros.close_up().map(|_| ())),
-            "slot 0 of the store neither is free nor holds a record that is good",
-        ),
-        (
-            words(store.add(&off).map(|_| ())),
-            "the record is bad for a map of the store's rows and cols: add one",
-        ),
-        (
-            words(store.add_record(&[]).map(|_| ())),
-            "a record is 48 bytes long, and this one 0",
-        ),
-        (
-            words(store.add(&spot(2)).map(|_| ())),
-            "each of the store's 1 slots holds a spot: strike a false one, or use a longer store",
-        ),
-        (
-            words(store.strike(4)),
-            "there is no slot 4: the store has 1, numbered from 0",
-        ),
-        (
-            words(store.strike(0).and_then(|()| store.strike(0))),
-            "slot 0 is free: strike one that holds a spot",
-        ),
-    ] {
-        assert!(said.starts_with(due), "{said}");
-    }
+fn the_refusals_of_a_bad_store_say_what_is_wrong_and_what_to_do() {
+    assert_said(
+        Store::from_bytes(ROWS, COLS, [0; 50]).clear(),
+        "a store is whole slots of 48 bytes each, and what is lent is 50 bytes long: lend a multiple of 48",
+    );
+    assert_said(
+        Store::from_bytes(ROWS, COLS, [0; 96]).close_up(),
+        "slot 0 of the store neither is free nor holds a record that is good",
+    );
+    let mut store = store_of(&[None]);
+    assert_said(
+        store.add(&Spot { x: 10.0, ..spot(1) }),
+        "the record is bad for a map of the store's rows and cols: add one",
+    );
+    assert_said(
+        store.add_record(&[]),
+        "a record is 48 bytes long, and this one 0",
+    );
+}
+
+#[test]
+fn the_refusals_of_slots_say_what_is_wrong_and_what_to_do() {
+    let mut store = store_of(&[Some(1), None]);
+    assert_said(
+        store.strike(2),
+        "there is no slot 2: the store has 2, numbered from 0",
+    );
+    assert_said(
+        store.strike(1),
+        "slot 1 is free: strike one that holds a spot",
+    );
+    store.add(&spot(2)).unwrap();
+    assert_said(
+        store.add(&spot(3)),
+        "each of the store's 2 slots holds a spot: strike a false one, or use a longer store",
+    );
     let unsaid = Refusal::NoSpot(NoSpot::Unsaid);
     assert_eq!(Refusal::from_number(13, 0), Some(unsaid));
-    assert!(
-        unsaid
-            .to_string()
-            .starts_with("the slot is free, or the store has none")
+    assert_said(
+        Err::<(), _>(unsaid),
+        "the slot is free, or the store has none of that number",
     );
 }
 
