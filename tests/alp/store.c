@@ -67,9 +67,10 @@ static uint32_t first_of(kind k, unsigned wrong) {
     return k == STRIKE && wrong & NUMBER ? 13 : 0;
 }
 
-/* A call with some things wrong with it, each in one of several ways; where a slot is bad, so is the next. What each 5 has beside it is another number. */
+/* A call with some things wrong with it, each in one of several ways; where a slot is bad, so is the next. Each 5 has another value
+ * beside it. */
 static bool refused_first(kind k, unsigned wrong, unsigned way) {
-    static const size_t lengths[8] = {BYTES - 1, 1, 3 * SPOT + 24, SPOT - 1, BYTES + 1, BYTES + 5, SPOT + 1, 2 * SPOT - 1};
+    static const size_t lengths[8] = {BYTES - 1, 1, 3 * SPOT + 24, SPOT - 1, BYTES - 17, BYTES + SPOT + 5, SPOT + 1, 2 * SPOT - 1};
     static const size_t spot_lengths[4] = {0, SPOT - 1, SPOT + 1, 2 * SPOT};
     unsigned live = wrong & FULL ? STORES - 1 : way % 2 ? 0x15 : 0x2a, bad = way % 4;
     uint32_t number = first_of(k, wrong);

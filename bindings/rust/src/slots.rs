@@ -30,9 +30,10 @@ impl fmt::Display for BadStore {
                 f,
                 "the record is bad for a map of the store's rows and cols: add one that was found on such a map"
             ),
-            BadStore::Record(length) => {
-                write!(f, "a record is 48 bytes long, and this one {length}")
-            }
+            BadStore::Record(length) => write!(
+                f,
+                "a record is 48 bytes long, and what is added {length}: add exactly one record"
+            ),
         }
     }
 }

@@ -79,6 +79,7 @@ impl<B: AsRef<[u8]>> Store<B> {
         self.bytes.as_ref()
     }
 
+    /// The bytes that it lay in.
     pub fn into_bytes(self) -> B {
         self.bytes
     }

@@ -461,7 +461,7 @@ fn the_refusals_of_a_bad_store_say_what_is_wrong_and_what_to_do() {
     );
     assert_said(
         store.add_record(&[]),
-        "a record is 48 bytes long, and this one 0",
+        "a record is 48 bytes long, and what is added 0: add exactly one record",
     );
 }
 
