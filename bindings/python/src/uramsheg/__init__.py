@@ -6,11 +6,12 @@ from .filling import fill
 from .finding import FOUND, Found, Judged, find
 from .grid import Grid
 from .missing import NO_SIZE
-from .records import OLD_SIZED, OLD_SPOT, SCENE, SET, SIZED, SPOT
+from .records import OLD_SIZED, OLD_SPOT, SCENE, SET, SIZED, SPOT, STORED
 from .refusals import (
     CountRefused,
     LevelRefused,
     NoSizeRefused,
+    NoSpotRefused,
     NotYoursRefused,
     OctaveRefused,
     PastRefused,
@@ -23,6 +24,7 @@ from .refusals import (
     ThresholdsRefused,
 )
 from .scenes import Tile, scene, tiles
+from .store import Store
 from .tables import Tables, TablesFault, standard
 
 #: the join by what it is for: each spot's size
@@ -30,8 +32,8 @@ size = join
 
 __version__ = "0.1.0"
 __all__ = [
-    "CountRefused", "Desk", "FOUND", "Feed", "Found", "Grid", "Judged", "LevelRefused", "NO_SIZE", "NoSizeRefused", "NotYoursRefused", "OLD_SIZED", "OLD_SPOT",
-    "OctaveRefused", "PastRefused", "RecordsRefused", "Refused", "RoomRefused", "SCENE", "SET", "SIZED", "SPOT", "SceneRefused", "SetRefused", "SizeRefused",
-    "Slot", "Table", "Tables", "TablesFault", "Thresholds", "ThresholdsRefused", "Tile", "correct", "detect", "downsample", "fill", "find", "join", "join_old",
-    "levels", "octave_count", "read_set", "scene", "size", "standard", "tiles",
+    "CountRefused", "Desk", "FOUND", "Feed", "Found", "Grid", "Judged", "LevelRefused", "NO_SIZE", "NoSizeRefused", "NoSpotRefused", "NotYoursRefused",
+    "OLD_SIZED", "OLD_SPOT", "OctaveRefused", "PastRefused", "RecordsRefused", "Refused", "RoomRefused", "SCENE", "SET", "SIZED", "SPOT", "STORED",
+    "SceneRefused", "SetRefused", "SizeRefused", "Slot", "Store", "Table", "Tables", "TablesFault", "Thresholds", "ThresholdsRefused", "Tile", "correct",
+    "detect", "downsample", "fill", "find", "join", "join_old", "levels", "octave_count", "read_set", "scene", "size", "standard", "tiles",
 ]

@@ -1,5 +1,4 @@
 """A table of sets that two desks share: eight slots, each with a set, an owner and a write count. Nothing is decided here, as in detector.py."""
-import threading
 from enum import IntEnum
 from typing import NamedTuple
 
@@ -8,6 +7,7 @@ import numpy as np
 from . import arrays
 from ._native import lib
 from .detector import asked_of, refusal, spots_by
+from .lent import LOCK, Lent, octets_in, writable
 from .records import TABLE
 from .refusals import CountRefused, NotYoursRefused, SetRefused, kind_of
 from .tables import Tables, record_of
@@ -25,8 +25,6 @@ DESKS = {desk.name.lower(): desk for desk in Desk}
 #: the owner of a slot that may be claimed
 FREE = 0
 SLOTS = range(lib.URAMSHEG_TABLE_SLOTS)
-#: held while the bytes of any table are looked at or changed, since other threads run during a call
-LOCK = threading.Lock()
 
 for name in dir(lib):
     if name.startswith("URAMSHEG_DESK_") and getattr(lib, name) not in DESKS.values():
@@ -42,7 +40,7 @@ class Slot(NamedTuple):
     good: bool
 
 
-class Table:
+class Table(Lent):
     """Sets of two desks: a desk claims a free slot, writes its own, and gives it back; anybody runs detection from a slot that a desk owns.
 
     It is the 4,264 bytes of the header's table: its own, or those of a buffer of the caller's (`over`). A desk is a `Desk`, its number, or its name in words.
@@ -52,7 +50,8 @@ class Table:
     bytes that it finds when it begins. Where another process, or other code, writes to the bytes too, both have to take a lock of the caller's.
     """
 
-    __slots__ = ("_octets",)
+    __slots__ = ()
+    NAME = "table"
 
     def __init__(self, octets=None):
         """A new table, of zeros: every slot is free, and every count 0; or one that begins as a copy of these bytes."""
@@ -71,28 +70,9 @@ class Table:
 
         An mmap, or shared memory, can be closed when no table lies in it any more: `close` lets go of it, as the end of a `with` does.
         """
-        octets = octets_of(buffer)
-        if not octets.flags.writeable:
-            raise TypeError("the buffer can't be written: Table(buffer) makes a copy")
         table = cls.__new__(cls)
-        table._octets = octets
+        table._octets = writable(octets_of(buffer), "Table(buffer)")
         return table
-
-    def close(self):
-        """Lets go of the bytes, wherever they lie; no other call is possible after it."""
-        self._octets = None
-
-    def __enter__(self):
-        return self
-
-    def __exit__(self, *_):
-        self.close()
-
-    def _lent(self):
-        """The bytes that a call is lent."""
-        if self._octets is None:
-            raise ValueError("the table was closed")
-        return self._octets
 
     def claim(self, desk, slot):
         """Makes a free slot the desk's: its set becomes zeros, which no run takes before the desk has written another; its count becomes one more."""
@@ -158,11 +138,6 @@ class Table:
         """The numbers of the slots that may be claimed, a list."""
         return self._held().free()
 
-    def to_bytes(self):
-        """The table's bytes."""
-        with LOCK:
-            return self._lent().tobytes()
-
     def _held(self):
         """What the table holds now."""
         return Held(self.to_bytes())
@@ -214,12 +189,10 @@ class Held:
 
 def octets_of(buffer):
     """The bytes of a table in a buffer, where they lie."""
-    view = memoryview(buffer)
-    if not view.c_contiguous:
-        raise TypeError("a table's bytes must lie one after the other")
-    if view.nbytes != TABLE.itemsize:
-        raise NotYoursRefused(f"the table has {view.nbytes} bytes, not {TABLE.itemsize}")
-    return np.frombuffer(view, "u1")
+    octets = octets_in(buffer, Table.NAME)
+    if octets.size != TABLE.itemsize:
+        raise NotYoursRefused(f"the table has {octets.size} bytes, not {TABLE.itemsize}")
+    return octets
 
 
 def desk_of(desk):

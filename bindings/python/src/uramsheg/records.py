@@ -49,6 +49,9 @@ FEED = np.dtype([
 #: a table of sets that two desks share: for each slot a set, its owner (0 free, or a Desk's number) and its write count
 TABLE = np.dtype([(name, kind, (lib.URAMSHEG_TABLE_SLOTS,)) for name, kind in (("sets", SET), ("owners", "u1"), ("counts", "<u4"))])
 
+#: a live spot of a store with its slot
+STORED = np.dtype([("slot", "<i8"), *SPOT.descr])
+
 for kind, width in ((SET, lib.URAMSHEG_SET_BYTES), (SPOT, lib.URAMSHEG_SPOT_BYTES), (SIZED, lib.URAMSHEG_SIZED_BYTES),
                     (OLD_SPOT, lib.URAMSHEG_OLD_SPOT_BYTES), (OLD_SIZED, lib.URAMSHEG_OLD_SIZED_BYTES),
                     (TILED, lib.URAMSHEG_SCENE_BYTES), (FEED, lib.URAMSHEG_FEED_BYTES), (TABLE, lib.URAMSHEG_TABLE_BYTES)):

@@ -4,7 +4,7 @@ from .missing import MEANS, NO_SIZE
 
 
 class Refused(ValueError):
-    """A refused call: `number` is that of uramsheg.h, `why` its meaning, `detail` the case, `index` the record it speaks of, else None."""
+    """A refused call: `number` is that of uramsheg.h, `why` its meaning, `detail` the case, `index` the record or slot it speaks of, else None."""
 
     number = 0
     why = ""
@@ -47,17 +47,18 @@ class SetRefused(Refused):
 
 
 class RecordsRefused(Refused):
-    """The list is no whole number of records (`index` is how many are whole), or holds a bad one (`index` is its place)."""
+    """The list is no whole number of records (`index` is how many are whole), or holds a bad one (`index` is its place). Of a store, the same of its slots; of
+    the spot that is added to it `index` is the number of slots."""
 
     number = lib.URAMSHEG_REFUSED_RECORDS
-    why = "the list holds a record that is bad for this map, or a part of one"
+    why = "a record is bad for this map, or only a part of one"
 
 
 class RoomRefused(Refused):
-    """The output, or a feed's ring, is shorter than needed."""
+    """The output, or a feed's ring, is shorter than needed; no slot of a store is free."""
 
     number = lib.URAMSHEG_REFUSED_ROOM
-    why = "the output, or a feed's ring, is too short: lend a longer one"
+    why = "the output, a feed's ring or a store is too short: lend a longer one"
 
 
 class NoSizeRefused(Refused):
@@ -114,6 +115,13 @@ class CountRefused(Refused):
 
     number = lib.URAMSHEG_REFUSED_COUNT
     why = "the slot's write count is 4294967295, the largest: use another slot"
+
+
+class NoSpotRefused(Refused):
+    """The store's slot is free, or there is none of that number; `index` is the number."""
+
+    number = lib.URAMSHEG_REFUSED_NO_SPOT
+    why = "the store's slot holds no spot: strike one that is live"
 
 
 #: the classes by their numbers
