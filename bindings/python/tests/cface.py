@@ -17,6 +17,10 @@ SIGNATURES = {
     "uramsheg_desk_write": [OCTETS, SIZE, SIZE, SIZE, OCTETS, SIZE],
     "uramsheg_desk_release": [OCTETS, SIZE, SIZE, SIZE],
     "uramsheg_desk_run": [OCTETS, SIZE, SIZE, *[FLOAT] * 5, SIZE, SIZE, SIZE, *[FLOATS, SIZE] * 4, OCTETS, SIZE, U64],
+    "uramsheg_store_clear": [OCTETS, SIZE, U64],
+    "uramsheg_store_add": [OCTETS, SIZE, SIZE, SIZE, OCTETS, SIZE, U64],
+    "uramsheg_store_strike": [OCTETS, SIZE, SIZE, SIZE, SIZE, U64],
+    "uramsheg_store_close_up": [OCTETS, SIZE, SIZE, SIZE, U64],
     "uramsheg_join": [OCTETS, SIZE, SIZE, SIZE, OCTETS, SIZE, OCTETS, SIZE, U64],
     "uramsheg_join_old": [OCTETS, SIZE, SIZE, SIZE, OCTETS, SIZE, OCTETS, SIZE, U64],
     "uramsheg_correct": [OCTETS, SIZE, *[FLOAT] * 5, c.c_bool, FLOATS, U64],
@@ -124,6 +128,15 @@ def desk_run(table, slot, thresholds, levels, octave, room, shape=None):
     slices = [part for level in levels for part in by_columns(level)]
     number = library.uramsheg_desk_run(lent, length, slot, *thresholds, rows, cols, octave, *slices, out, SPOT * room, value)
     return number, value.value, bytes(out)[: SPOT * room], bytes(lent)[:length]
+
+
+def store(call, octets_held, shape, *given):
+    """The number and the value of a call on a store, and the store's bytes after it; a spot is given as its bytes."""
+    lent, length = octets(octets_held)
+    value = c.c_uint64(77)
+    words = [part for one in given for part in (octets(one) if isinstance(one, bytes) else (one,))]
+    number = getattr(library, f"uramsheg_store_{call}")(lent, length, *(() if call == "clear" else shape), *words, value)
+    return number, value.value, bytes(lent)[:length]
 
 
 def join(record, shape, listed, room, call="join"):

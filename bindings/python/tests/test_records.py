@@ -15,7 +15,7 @@ HEADER = (cface.ROOT / "include" / "uramsheg.h").read_text()
 @pytest.mark.parametrize("kind, width", [(u.SET, lib.URAMSHEG_SET_BYTES), (u.SPOT, lib.URAMSHEG_SPOT_BYTES), (u.SIZED, lib.URAMSHEG_SIZED_BYTES),
                                          (u.OLD_SPOT, lib.URAMSHEG_OLD_SPOT_BYTES), (u.OLD_SIZED, lib.URAMSHEG_OLD_SIZED_BYTES),
                                          (TILED, lib.URAMSHEG_SCENE_BYTES), (FEED, lib.URAMSHEG_FEED_BYTES), (TABLE, lib.URAMSHEG_TABLE_BYTES),
-                                         (u.SCENE, 88)])
+                                         (u.SCENE, 88), (u.STORED, 8 + lib.URAMSHEG_SPOT_BYTES)])
 def test_every_byte_has_a_name(kind, width):
     assert kind.itemsize == width == sum(kind[name].itemsize for name in kind.names)
     assert [kind.fields[name][1] for name in kind.names] == [sum(kind[before].itemsize for before in kind.names[:place]) for place in range(len(kind.names))]
@@ -58,6 +58,13 @@ def test_the_places_of_a_table_are_the_header_s():
     said = {"sets": r"(\d+) eight set records of 528 bytes", "owners": r"(\d+) eight owner bytes", "counts": r"(\d+) eight write counts \(u32 each\)"}
     assert {name: int(re.search(pattern, text)[1]) for name, pattern in said.items()} == {name: TABLE.fields[name][1] for name in TABLE.names}
     assert all(TABLE[name].shape == (8,) for name in TABLE.names)
+
+
+def test_the_byte_of_a_free_slot_is_the_header_s():
+    text = HEADER[HEADER.index("The store: slots of 48 bytes"):]
+    free, place = map(int, re.search(r"A free slot\s+\*\s+has (\d+) in byte (\d+), where a record has its polarity", text).groups())
+    assert (lib.URAMSHEG_FREE_SLOT, u.SPOT.fields["is_max"][1]) == (free, place)
+    assert [(name, u.STORED.fields[name][1] - 8, u.STORED[name]) for name in u.STORED.names[1:]] == [(name, u.SPOT.fields[name][1], u.SPOT[name]) for name in u.SPOT.names]
 
 
 def test_chosen_records_keep_every_byte(m):

@@ -32,7 +32,7 @@ def refused(kind, call, *given, **named):
 
 def test_each_number_of_the_header_has_a_class():
     named = {getattr(lib, name) for name in dir(lib) if name.startswith("URAMSHEG_REFUSED_")}
-    assert named == set(refusals.REFUSALS) == set(range(1, 13))
+    assert named == set(refusals.REFUSALS) == set(range(1, 14))
     for kind in refusals.REFUSALS.values():
         assert issubclass(kind, u.Refused) and issubclass(kind, ValueError) and kind.why and getattr(u, kind.__name__) is kind
 
@@ -203,7 +203,7 @@ def test_10_scene(m):
 
 @pytest.mark.parametrize("error", [u.SizeRefused("5000 by 3"), u.RecordsRefused("record 3", 3), u.ThresholdsRefused(["peak", "low"]), u.NoSizeRefused(1),
                                    u.NoSizeRefused(2), u.PastRefused("90 of 90"), u.SceneRefused("16385 by 3"), u.NotYoursRefused("slot 3 is free"),
-                                   u.CountRefused("slot 3")])
+                                   u.CountRefused("slot 3"), u.NoSpotRefused("slot 3 is free", 3)])
 def test_a_refusal_travels_between_processes(error):
     for again in (pickle.loads(pickle.dumps(error)), copy.copy(error)):
         assert (type(again), str(again), vars(again), again.args) == (type(error), str(error), vars(error), error.args)
