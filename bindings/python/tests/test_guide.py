@@ -38,6 +38,20 @@ def test_the_code_on_two_desks_runs(tmp_path, monkeypatch):
     assert (tmp_path / "desks").read_bytes() == tables.to_bytes() + bytes(7 * 528) + b"\2" + bytes(7) + b"\2" + bytes(31)
 
 
+def test_the_code_on_a_day_s_spots_runs(tmp_path, monkeypatch, capsys):
+    monkeypatch.chdir(tmp_path)
+    tables, levels = u.standard(), u.levels(blob.spots((64, 64), (20.2, 31.3, 2.5, 100), (44.1, 30.2, 3, 100)), u.standard())
+    spots = u.detect(levels, tables, u.Thresholds(peak=10))
+    for text in (GUIDE, (cface.ROOT / "bindings" / "python" / "README.md").read_text()):
+        (code,) = re.findall(r"^```python\n(.*?)^```", text[text.index("## A day's spots"):].split("\n## ")[0], re.M | re.S)
+        names = {"levels": levels, "tables": tables, "uramsheg": u}
+        exec(code, names)
+        assert names["sized"].tobytes() == u.join(spots[1:], tables, (64, 64)).tobytes() and names["live"] == 1 and names["slots"] == [0, 1]
+    assert [line.split()[0] for line in capsys.readouterr().out.splitlines()] == ["0", "1"]
+    free = bytes(38) + b"\xff" + bytes(9)
+    assert names["store"].to_bytes() == (tmp_path / "day").read_bytes() == spots[1:].tobytes() + free * 999
+
+
 @pytest.mark.parametrize("times, sizes", [(1, (2.4, 2.5)), (2, (2.5, 5.0)), (3.5, (2.5, 8.75)), (4, None), (5, None)])
 def test_long_spots(times, sizes):
     rows, cols = np.mgrid[:160, :160]
