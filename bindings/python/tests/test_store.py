@@ -7,6 +7,7 @@ import pickle
 import subprocess
 import sys
 import threading
+from collections import Counter
 from itertools import product
 from multiprocessing.shared_memory import SharedMemory
 
@@ -55,16 +56,22 @@ LENGTHS = [b"", MapM.line[:1], MapM.line[:-1], MapM.line + b"\0", MapM.line * 2,
 SPOTS = st.one_of(st.sampled_from(GOOD), st.builds(lambda x, y, key, dx: spot(x=x, y=y, key=key, dx=dx), st.floats(0, 9, width=32), st.floats(0, 8, width=32),
                                                    st.integers(0, 89), st.integers(0, 0x3F19999A)))
 ANY = st.one_of(SPOTS, SPOTS, SPOTS, st.sampled_from(BAD + FORGED + LENGTHS + [FREE]), st.builds(byte, st.integers(0, 47), st.integers(0, 255), SPOTS))
-NUMBERS = st.one_of(st.integers(0, 9), st.integers(0, 9), st.sampled_from([255, 2**32, LAST // 48, LAST - 1, LAST]))
-CALLS = st.one_of(st.tuples(st.just("add"), ANY), st.tuples(st.just("add"), SPOTS), st.tuples(st.just("strike"), NUMBERS), st.tuples(st.just("strike"), NUMBERS),
-                  st.just(("close_up",)), st.just(("clear",)))
 SLOT = st.one_of(st.just(FREE), SPOTS)
-SOUND = st.lists(SLOT, max_size=9).map(b"".join)
+
+
+def of_sizes(items, *sizes):
+    """Lists of as many items as one of the sizes says."""
+    return st.sampled_from(sizes).flatmap(lambda size: st.lists(items, min_size=size, max_size=size))
+
+
+NUMBERS = st.one_of(*[st.integers(0, 5)] * 4, st.sampled_from([6, 8, 9, 255, 2**32, LAST // 48, LAST - 1, LAST]))
+CALLS = st.one_of(*[st.tuples(st.just("add"), SPOTS)] * 3, st.tuples(st.just("add"), ANY), *[st.tuples(st.just("strike"), NUMBERS)] * 3, *[st.just(("close_up",))] * 2,
+                  st.sampled_from([("close_up",), ("close_up",), ("clear",)]))
+SOUND = of_sizes(SLOT, 0, 1, 3, 6, 6, 9).map(b"".join)
 #: any bytes: most are a store, some hold what is no slot, some are no whole slots
-STORES = st.one_of(SOUND, st.lists(st.one_of(SLOT, SLOT, SLOT, st.sampled_from(BAD + FORGED)), max_size=9).map(b"".join), st.binary(max_size=150),
+STORES = st.one_of(SOUND, of_sizes(st.one_of(SLOT, SLOT, SLOT, st.sampled_from(BAD + FORGED)), 1, 3, 6).map(b"".join), st.binary(max_size=150),
                    st.tuples(SOUND, st.binary(min_size=1, max_size=47)).map(b"".join))
-SHAPES = st.one_of(st.just(SHAPE), st.just(SHAPE), st.just(SHAPE), st.sampled_from([(0, 0), (9, 0), (0, 10), (8, 10), (9, 9), (4096, 4096), (4097, 10), (9, 2**32),
-                                                                                 (LAST, LAST)]))
+SHAPES = st.one_of(*[st.just(SHAPE)] * 3, st.sampled_from([(0, 0), (9, 0), (0, 10), (8, 10), (9, 9), (4096, 4096), (4097, 10), (9, 4097), (9, 2**32), (LAST, LAST)]))
 
 
 def answer(call, *given):
@@ -120,7 +127,7 @@ def test_the_records_of_the_properties_are_what_they_are_said_to_be():
     assert len(set(GOOD)) == len(GOOD) and len(FORGED) == 47 and not any(map(GOOD.__contains__, BAD + FORGED))
 
 
-@given(STORES, SHAPES, st.lists(CALLS, max_size=12))
+@given(STORES, SHAPES, of_sizes(CALLS, 1, 4, 8))
 def test_calls_on_any_bytes(octets, shape, calls):
     store, plain = both(octets, shape)
     hold(store, plain)
@@ -129,13 +136,31 @@ def test_calls_on_any_bytes(octets, shape, calls):
     hold(store, plain)
 
 
-@given(SOUND, st.lists(CALLS, max_size=60))
+@given(SOUND, of_sizes(CALLS, 1, 5, 20))
 def test_any_calls_leave_what_a_list_of_optional_spots_holds(octets, calls):
     store, plain = both(octets)
     for call in calls:
         same_thrice(store, plain, *call)
         hold(store, plain)
     assert not plain.wrong()
+
+
+def history(rng, slots, calls):
+    """Calls by chance on a store of so many slots: each with its number, and whether it moved a spot to another slot."""
+    store, plain = both(FREE * slots)
+    share = rng.uniform(0.3, 0.6)
+    for _ in range(calls):
+        call = rng.choice(["add", "strike", "close_up", "clear"], p=[share, 0.97 - share, 0.02, 0.01])
+        record = BAD[rng.integers(len(BAD))] if rng.random() < 0.05 else spot(x=rng.random(dtype="f4"), y=rng.random(dtype="f4"), key=rng.integers(90))
+        given, before = {"add": [record], "strike": [int(rng.integers(slots + 1))]}.get(call, []), plain.held
+        yield call, same_thrice(store, plain, call, *given), call == "close_up" and plain.held != before
+    hold(store, plain)
+
+
+def test_long_histories():
+    came = Counter(one for seed in range(8) for one in history(np.random.default_rng(seed), 2 + 5 * seed, 700))
+    assert set(came) == {("add", 0, False), ("add", 5, False), ("add", 6, False), ("strike", 0, False), ("strike", 13, False), ("close_up", 0, False),
+                         ("close_up", 0, True), ("clear", 0, False)} and min(came.values()) > 20
 
 
 class Day(RuleBasedStateMachine):
@@ -187,12 +212,11 @@ def test_a_day_and_a_list_of_optional_spots():
     assert Day.seen == {("add", 0), ("add", 5), ("add", 6), ("strike", 0), ("strike", 5), ("strike", 13), ("close_up", 0), ("close_up", 5), ("clear", 0)}
 
 
-@pytest.mark.parametrize("wide, short, bad, full", product([False, True], repeat=4))
-def test_the_first_refusal_is_the_c_face_s_own(wide, short, bad, full):
+@pytest.mark.parametrize("shape, short, bad, full", product([SHAPE, (4097, 10), (9, 4097)], *[[False, True]] * 3))
+def test_the_first_refusal_is_the_c_face_s_own(shape, short, bad, full):
     """1, then 5 for the length, 5 for a slot; adding: 5 for the new spot, then 6; striking: 13. Clearing: 5 for the length alone."""
-    shape = (4097, 10) if wide else SHAPE
     octets = MapM.line + (BAD[0] if bad else GOOD[1]) + (GOOD[2] if full else FREE) + (b"\0" if short else b"")
-    first = (1, 0) if wide else (5, 3) if short else (5, 1) if bad else None
+    first = (1, 0) if shape != SHAPE else (5, 3) if short else (5, 1) if bad else None
     room = (6, 0) if full else (0, 2)
     due = [(("clear",), (5, 3) if short else (0, 0)), (("close_up",), first or (0, 3 if full else 2)), *((("add", given), first or (5, 3)) for given in BAD + LENGTHS),
            *((("add", given), first or room) for given in GOOD), (("strike", 0), first or (0, 0)), (("strike", 2), first or ((0, 0) if full else (13, 0))),
@@ -323,22 +347,30 @@ def test_spots_whatever_the_array(dress, count):
     assert bytes(spots) == b"".join(GOOD[:count])
 
 
-@pytest.mark.parametrize("give", [bytes, bytearray, memoryview, lambda record: np.frombuffer(record, u.SPOT)[0], lambda record: np.frombuffer(record, u.SPOT).reshape(()),
-                                  lambda record: np.repeat(np.frombuffer(record, u.SPOT), 3)[::2][1], lambda record: np.frombuffer(record, u.SPOT).view(np.recarray)[0]])
-def test_a_spot_whatever_holds_it(give):
+HOLDERS = {
+    "bytes": bytes, "bytearray": bytearray, "memoryview": memoryview, "a record": lambda octets: np.frombuffer(octets, u.SPOT)[0],
+    "an array of no sides": lambda octets: np.frombuffer(octets, u.SPOT).reshape(()), "of a list": lambda octets: np.repeat(np.frombuffer(octets, u.SPOT), 3)[::2][1],
+    "by names": lambda octets: np.frombuffer(octets, u.SPOT).view(np.recarray)[0],
+}
+
+
+@pytest.mark.parametrize("holder", sorted(HOLDERS))
+def test_a_spot_whatever_holds_it(holder):
     store = u.Store(len(GOOD), *SHAPE)
-    for record in GOOD:
-        store.add(give(record))
+    for octets in GOOD:
+        store.add(HOLDERS[holder](octets))
     assert store.to_bytes() == b"".join(GOOD)
 
 
-OTHER_TYPES = [np.dtype([(name, u.SPOT[name].newbyteorder(">")) for name in u.SPOT.names]), u.OLD_SPOT, u.SIZED, u.STORED, np.dtype("V48"),
-               np.dtype([(name, u.SPOT[name]) for name in reversed(u.SPOT.names)]), np.dtype(("u1", (48,)))]
+OTHER_TYPES = {
+    "big-endian": np.dtype([(name, u.SPOT[name].newbyteorder(">")) for name in u.SPOT.names]), "old": u.OLD_SPOT, "sized": u.SIZED, "stored": u.STORED,
+    "nameless": np.dtype("V48"), "octets": np.dtype(("u1", (48,))), "turned": np.dtype([(name, u.SPOT[name]) for name in reversed(u.SPOT.names)]),
+}
 
 
-@pytest.mark.parametrize("kind", OTHER_TYPES, ids=str)
+@pytest.mark.parametrize("kind", sorted(OTHER_TYPES))
 def test_an_array_of_another_type_is_no_spot(kind):
-    store, records = u.Store(3, *SHAPE), np.zeros(2, kind)
+    store, records = u.Store(3, *SHAPE), np.zeros(2, OTHER_TYPES[kind])
     for call, given in ((store.add, records[0]), (store.add, records), (store.extend, records), (store.extend, records[0])):
         pytest.raises(TypeError, call, given)
     assert store.to_bytes() == FREE * 3
@@ -355,7 +387,7 @@ def test_an_array_is_no_spot_and_a_spot_no_array():
     assert store.to_bytes() == FREE * 3
 
 
-@given(SOUND, st.lists(SPOTS, max_size=6), st.sampled_from([b"", *BAD, MapM.line[:-1], MapM.line[:1]]))
+@given(SOUND, of_sizes(SPOTS, 0, 1, 3, 6), st.sampled_from([b"", *BAD, MapM.line[:-1], MapM.line[:1]]))
 def test_several_are_one_call_each(octets, spots, last):
     """What is refused at one has been done for those before it."""
     store, plain = both(octets)
@@ -507,7 +539,7 @@ NEITHER = "is neither free nor holds a spot of a map of 9 by 10: clear a new sto
     (bytes(96), ("add", MapM.line), 0, f"{RECORD} (slot 0 {NEITHER})"), (FREE + FORGED[40], ("strike", 0), 1, f"{RECORD} (slot 1 {NEITHER})"),
     (MapM.line + BAD[3], ("close_up",), 1, f"{RECORD} (slot 1 {NEITHER})"), (FREE + b"7", ("clear",), 1, f"{RECORD} (49 bytes are 1 slots and 1 bytes more: lend whole slots)"),
     (b"", ("extend", b"7"), 0, f"{RECORD} (the new spot has 1 bytes, not 48; 0 of 1 were added)"),
-])
+], ids=lambda value: f"{len(value)} bytes" if isinstance(value, bytes) else None)
 def test_the_words_of_a_refusal(octets, call, index, said):
     store = u.Store.from_bytes(octets, *SHAPE)
     with pytest.raises(u.Refused) as caught:
