@@ -92,6 +92,11 @@ def same_thrice(store, plain, call, *given):
     return told[0]
 
 
+def octets_of(record):
+    """An optional spot's bytes."""
+    return None if record is None else record.tobytes()
+
+
 def hold(store, plain):
     """The readers say what a plain list of optional spots holds; of bytes that are no store, what the calls are refused with."""
     assert store.to_bytes() == plain.octets() and len(store) == len(plain.held)
@@ -101,7 +106,7 @@ def hold(store, plain):
         return
     live = [(slot, held) for slot, held in enumerate(plain.held) if held is not None]
     assert (store.live, store.free) == ([slot for slot, _ in live], [slot for slot, held in enumerate(plain.held) if held is None])
-    assert [None if held is None else held.tobytes() for held in store] == [held and store[slot].tobytes() for slot, held in enumerate(plain.held)] == plain.held
+    assert [octets_of(record) for record in store] == [octets_of(store[slot]) for slot in range(len(store))] == plain.held
     assert store.listed.dtype == u.SPOT and [held.tobytes() for held in store.listed] == [held for _, held in live]
     assert store.spots.dtype == u.STORED and [held.tobytes() for held in store.spots] == [slot.to_bytes(8, "little") + held for slot, held in live]
 

@@ -20,7 +20,7 @@ class Store(Lent):
     the number of slots, and a slot's item its record, or None where it is free. Stores are equal where their bytes, rows and cols are. A copy, or a pickle read
     again, has bytes of its own.
 
-    Every call and every reader but `len` and `to_bytes` checks all slots first; bytes that are no store are refused by the first of them (RecordsRefused).
+    Calls but `clear`, and readers but `len`, `shape` and `to_bytes`, check all slots first: the first of them refuses bytes that are no store (RecordsRefused).
 
     Threads may share a store, and stores over the same bytes: what looks at the bytes or changes them waits for what does so already. Where another process, or
     other code, writes to the bytes too, both have to take a lock of the caller's.
