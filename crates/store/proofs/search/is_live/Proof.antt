@@ -11,7 +11,7 @@ use Rattle.store.proofs.search.is_live.Statement.{statement}
 use Rattle.store.proofs.search.is_live.Tie as tie
 
 returns : tie.Need-returns
-returns c = let a = c .before .before .args in rw (past-free (a .b .now) (a .i) (c .if1 .taken))
+returns c = let a = c .before .before .args in rw (past-free (a .b .now) (a .i) (omega (arith, c .if1 .taken)))
 
 mul-at : tie.Need-mul-at
 mul-at c = search needs
