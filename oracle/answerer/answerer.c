@@ -283,6 +283,47 @@ static void desk_run(void) {
     free(out.bytes);
 }
 
+/* What a call on a store answered, and the store. */
+static void kept(uint32_t answered, uint64_t value, Bytes store) {
+    answer(answered);
+    answer(value);
+    give(store.bytes, store.length);
+    free(store.bytes);
+}
+
+static void store_clear(void) {
+    Bytes store = bytes();
+    uint64_t value = UINT64_MAX;
+    uint32_t answered = uramsheg_store_clear(store.bytes, store.length, &value);
+    kept(answered, value, store);
+}
+
+static void store_add(void) {
+    Bytes store = bytes();
+    size_t rows = number(), cols = number();
+    Bytes spot = bytes();
+    uint64_t value = UINT64_MAX;
+    uint32_t answered = uramsheg_store_add(store.bytes, store.length, rows, cols, spot.bytes, spot.length, &value);
+    kept(answered, value, store);
+    free(spot.bytes);
+}
+
+static void store_strike(void) {
+    Bytes store = bytes();
+    size_t rows = number(), cols = number(), slot = number();
+    uint64_t value = UINT64_MAX;
+    uint32_t answered = uramsheg_store_strike(store.bytes, store.length, rows, cols, slot, &value);
+    kept(answered, value, store);
+}
+
+static void store_close_up(void) {
+    Bytes store = bytes();
+    size_t rows = number(), cols = number();
+    uint64_t value = UINT64_MAX;
+    uint32_t answered = uramsheg_store_close_up(store.bytes, store.length, rows, cols, &value);
+    kept(answered, value, store);
+}
+
 static void set_check(void) {
     Bytes set = bytes();
     answer(uramsheg_set_check(set.bytes, set.length));
@@ -308,6 +349,10 @@ int main(void) {
         case 'w': desk_write(); break;
         case 'b': desk(uramsheg_desk_release); break;
         case 'r': desk_run(); break;
+        case 'e': store_clear(); break;
+        case 'p': store_add(); break;
+        case 'x': store_strike(); break;
+        case 'u': store_close_up(); break;
         default: stop("no such request");
         }
         fflush(stdout);

@@ -101,6 +101,41 @@ pub struct Asked {
     pub ask: Ask,
 }
 
+/// What is asked of a store; sides are rows and cols.
+#[derive(Clone, Debug)]
+pub enum Keep {
+    Clear,
+    Add {
+        sides: (usize, usize),
+        spot: Vec<u8>,
+    },
+    Strike {
+        sides: (usize, usize),
+        slot: usize,
+    },
+    CloseUp {
+        sides: (usize, usize),
+    },
+}
+
+impl Keep {
+    /// The record that is added; of the other calls no bytes.
+    pub fn spot(&self) -> &[u8] {
+        match self {
+            Keep::Add { spot, .. } => spot,
+            _ => &[],
+        }
+    }
+}
+
+/// A call on a store of which so many bytes are lent. Before it the bits of one of its bytes are turned, and turned back where it is refused.
+#[derive(Clone, Debug)]
+pub struct Keeping {
+    pub lent: usize,
+    pub spoilt: Option<(usize, u8)>,
+    pub keep: Keep,
+}
+
 /// One input to one function.
 #[derive(Clone, Debug)]
 pub enum Case {
@@ -163,6 +198,13 @@ pub enum Case {
     },
     /// Calls on a table one after another; it stands in room for a longer one.
     Desks { table: Vec<u8>, calls: Vec<Asked> },
+    /// Calls on a store one after another; it stands in room for a longer one. With a scene the spots that detection lists of it are added first, and what the
+    /// last call has closed up is joined.
+    Stores {
+        scene: Option<Scene>,
+        store: Vec<u8>,
+        calls: Vec<Keeping>,
+    },
     /// An inner function on words.
     Inner {
         function: &'static str,

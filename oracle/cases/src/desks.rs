@@ -149,7 +149,7 @@ impl Pool {
 }
 
 /// A small map by its number: map M first, then half of them its relations.
-fn small(random: &mut Random, number: usize) -> Scene {
+pub(crate) fn small(random: &mut Random, number: usize) -> Scene {
     let relation = if number == 0 { 0 } else { random.below(19) };
     let (rows, cols) = (random.from_to(9, 12), random.from_to(9, 12));
     let mut scene = match named(relation) {
@@ -288,7 +288,7 @@ fn lively(random: &mut Random, pool: &Pool, kind: Kind) -> Case {
 }
 
 /// Whether each of so many faults is chosen.
-fn chosen<const N: usize>(choice: usize) -> [bool; N] {
+pub(crate) fn chosen<const N: usize>(choice: usize) -> [bool; N] {
     core::array::from_fn(|fault| choice >> fault & 1 == 1)
 }
 

@@ -17,11 +17,12 @@ use crate::records::{self, Form, PRESENT, SPOT};
 use crate::rounding;
 use crate::scenes;
 use crate::sets::{self, Set};
+use crate::stores;
 use crate::turning;
 use crate::words::{self, FUNCTIONS};
 
 /// The families of cases. `inner` counts through the inner functions.
-pub const FAMILIES: [&str; 35] = [
+pub const FAMILIES: [&str; 36] = [
     "list",
     "detect",
     "join",
@@ -57,6 +58,7 @@ pub const FAMILIES: [&str; 35] = [
     "deltas",
     "old",
     "desks",
+    "stores",
 ];
 
 /// The case of a family with the given seed and number.
@@ -102,6 +104,7 @@ pub fn expand(family: &str, seed: u64, number: usize) -> Case {
         "deltas" => deltas::join(random, number),
         "old" => old::join(random, number),
         "desks" => desks::history(random, number),
+        "stores" => stores::history(random, number),
         "floats" => {
             let (function, words) = words::many(random, number);
             Case::Inner {

@@ -20,10 +20,11 @@ pub mod records;
 mod rounding;
 pub mod scenes;
 pub mod sets;
+pub mod stores;
 mod turning;
 pub mod words;
 
-pub use case::{Ask, Asked, Case, Feed, Given, Raw, Scene, Start};
+pub use case::{Ask, Asked, Case, Feed, Given, Keep, Keeping, Raw, Scene, Start};
 pub use edges::{Knob, turn};
 pub use families::{FAMILIES, expand};
 pub use sets::Set;

@@ -80,6 +80,11 @@ impl Random {
         values[self.below(values.len())]
     }
 
+    /// One of the given values, which is not copied.
+    pub fn pick_of<'a, T>(&mut self, values: &'a [T]) -> &'a T {
+        &values[self.below(values.len())]
+    }
+
     /// A number from 0 up to 1.
     pub fn unit(&mut self) -> f64 {
         (self.word() >> 11) as f64 / (1u64 << 53) as f64

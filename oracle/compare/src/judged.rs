@@ -2,9 +2,9 @@
 
 use cases::levels::{FILL, TAPS, WIDEST};
 use cases::records::SPOT;
-use cases::{Raw, Scene, Set, Start};
+use cases::{Keep, Raw, Scene, Set, Start};
 use judge::{
-    Answer, Kernel, Logs, Map, Pass, RawMap, Rules, desks, feed, inner, levels, scene, steps,
+    Answer, Kernel, Logs, Map, Pass, RawMap, Rules, desks, feed, inner, levels, scene, steps, store,
 };
 use subject::{Call, Correction, Fed, Lent, Reply, Subject, Tiling};
 
@@ -135,6 +135,14 @@ fn reply_of(answer: Answer) -> Reply {
         Answer::Done(count) => Reply::Done(count),
         Answer::Refused { number, index } => Reply::Refused { number, index },
     }
+}
+
+fn fed_of(answer: Answer) -> Fed {
+    let (number, value) = match answer {
+        Answer::Done(count) => (0, count as u64),
+        Answer::Refused { number, index } => (number, index as u64),
+    };
+    Fed { number, value }
 }
 
 impl Subject for Judge {
@@ -288,11 +296,17 @@ impl Subject for Judge {
         out: &mut [u8],
     ) -> Option<Fed> {
         let answer = desks::run(self.rules, self.pass, table, slot, map_of(scene), out);
-        let (number, value) = match answer {
-            Answer::Done(count) => (0, count as u64),
-            Answer::Refused { number, index } => (number, index as u64),
+        Some(fed_of(answer))
+    }
+
+    fn store_call(&mut self, bytes: &mut [u8], keep: &Keep) -> Option<Fed> {
+        let answer = match keep {
+            Keep::Clear => store::clear(bytes),
+            Keep::Add { sides, spot } => store::add(bytes, sides.0, sides.1, spot),
+            Keep::Strike { sides, slot } => store::strike(bytes, sides.0, sides.1, *slot),
+            Keep::CloseUp { sides } => store::close_up(bytes, sides.0, sides.1),
         };
-        Some(Fed { number, value })
+        Some(fed_of(answer))
     }
 
     fn inner(&mut self, function: &str, set: &Set, words: &[f32]) -> Option<Vec<f32>> {

@@ -11,6 +11,8 @@ mod forged;
 mod histories;
 mod judged;
 #[cfg(feature = "archive")]
+mod keeping;
+#[cfg(feature = "archive")]
 mod lanes;
 mod moved;
 mod own;
@@ -25,6 +27,7 @@ mod search;
 mod soak;
 #[cfg(feature = "probe")]
 mod steps;
+mod stores;
 mod tally;
 mod tiles;
 
@@ -47,6 +50,7 @@ const USE: &str = "use: compare own [SEED [TIMES]]
      compare scenes SEED TIMES                (built with the feature `archive`; the family, and every fourth map as a scene)
      compare tiles SEED TIMES                 (built with the feature `archive`; 2,000 small scenes a time in small tiles)
      compare desks SEED TIMES                 (built with the feature `archive`; 3,000,000 calls a time of two desks on one table)
+     compare stores SEED TIMES                (built with the feature `archive`; 3,000,000 calls a time on stores of spots)
      compare soak SEED MAPS [FIRST]           (built with the feature `archive`; from the map of number FIRST on)
      compare probe SEED CASES_A_FUNCTION      (built with the feature `probe`)
      compare steps SEED [EVERY]               (built with the feature `probe`; every 256th pattern where EVERY is not given)
@@ -98,6 +102,8 @@ fn main() -> ExitCode {
         ),
         #[cfg(feature = "archive")]
         Some("desks") => histories::run(number(1, SEED), number(2, 1) as usize),
+        #[cfg(feature = "archive")]
+        Some("stores") => keeping::run(number(1, SEED), number(2, 1) as usize),
         #[cfg(feature = "archive")]
         Some("soak") if words.len() > 2 => soak::run(
             number(1, SEED),
@@ -172,6 +178,7 @@ fn tally(seed: u64, times: usize) -> bool {
                     answer(tally.feeds.entry(family.into()).or_default(), &one.case)
                 }
                 Case::Tiled { .. } => answer(&mut tally.scenes, &one.case),
+                Case::Stores { .. } => answer(&mut tally.stores, &one.case),
                 Case::Desks { table, calls } => {
                     tally.desks.add_history(&mut judge, table, calls);
                     answer(&mut judge, &one.case)
@@ -214,6 +221,8 @@ fn tally(seed: u64, times: usize) -> bool {
     let unjoined = (!unjoined.is_empty()).then(|| format!("no join answers {unjoined:?}"));
     let unasked = tally.desks.not_reached();
     let unasked = (!unasked.is_empty()).then(|| format!("no call of a desk has {unasked:?}"));
+    let unkept = tally.stores.not_reached();
+    let unkept = (!unkept.is_empty()).then(|| format!("no call on a store has {unkept:?}"));
     own::told(
         "every-gate-rejects",
         fault,
@@ -262,6 +271,16 @@ fn tally(seed: u64, times: usize) -> bool {
             "a-desk-is-answered-by-its-first-cause",
             tally.desks.odd(),
             "the length, the desk, the slot, its owner, its count; of a run the map's and the set's; of a write the record's",
+        )
+        & own::told(
+            "every-answer-of-a-store-is-reached",
+            unkept,
+            "clearing's 0 and 5, adding's 0, 1, 5 and 6, striking's 0, 1, 5 and 13, closing up's 0, 1 and 5; every two causes at once; slots at either end",
+        )
+        & own::told(
+            "a-store-is-answered-by-its-first-cause",
+            tally.stores.odd(),
+            "the sides, the length, a slot, the record, no free slot, no spot; with the value due",
         )
 }
 

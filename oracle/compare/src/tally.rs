@@ -4,6 +4,7 @@
 use crate::desks::Desks;
 use crate::judged::Judge;
 use crate::search::{Kind, kind};
+use crate::stores::Stores;
 use cases::causes::STATISTIC;
 use cases::levels::TAPS;
 use cases::records::{OLD, OLD_SIZED, PRESENT, SPOT, cut};
@@ -32,6 +33,7 @@ pub struct Tally {
     pub feeds: BTreeMap<String, Fedness>,
     pub scenes: Scenes,
     pub desks: Desks,
+    pub stores: Stores,
 }
 
 /// What scenes answered, by its number: of 6 how many after so many tiles; the records of scenes that were taken, the most tiles that had some, and the tiles
@@ -312,7 +314,8 @@ impl Tally {
             let answer = join_answer(*old, list, case, &text);
             *self.joins.entry((*old, answer)).or_default() += 1;
         }
-        if text.starts_with("refused") && !matches!(case, Case::Desks { .. }) {
+        if text.starts_with("refused") && !matches!(case, Case::Desks { .. } | Case::Stores { .. })
+        {
             let number: String = text
                 .split([' ', ':', '\n'])
                 .take(2)
@@ -436,6 +439,8 @@ impl Tally {
         );
         println!("desks, {}", self.desks.told());
         self.desks.print_pairs();
+        println!("stores, {}", self.stores.told());
+        self.stores.print();
         for ((old, answer), count) in &self.joins {
             let of = if *old { "old lists" } else { "lists" };
             println!("joins of {of}, {answer}: {count}");

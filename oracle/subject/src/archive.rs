@@ -2,8 +2,8 @@
 //! that page before every buffer and then behind it, and both must answer and leave the same.
 
 use crate::guarded::{Room, Side};
-use crate::{Call, Correction, Fed, Lent, Reply, Subject, Tiling, desks, scene};
-use cases::{Raw, Scene, Set, Start};
+use crate::{Call, Correction, Fed, Lent, Reply, Subject, Tiling, desks, scene, stores};
+use cases::{Keep, Raw, Scene, Set, Start};
 use core::fmt::Debug;
 use uramsheg::{Map, Refusal, Thresholds, raw};
 
@@ -497,6 +497,18 @@ impl Subject for Archive {
             };
             let fed = call(held, slot, scene, seen, lent);
             assert!(held == table, "a run wrote the table");
+            left.copy_from_slice(lent);
+            fed
+        }))
+    }
+
+    /// On copies of the store and of the record beside the page, by the C function.
+    fn store_call(&mut self, store: &mut [u8], keep: &Keep) -> Option<Fed> {
+        Some(both_sides(store, |side, left| {
+            let lent = self.out.lend(side, left);
+            let spot = self.list.lend(side, keep.spot());
+            let fed = stores::called(lent, keep, spot);
+            assert!(spot == keep.spot(), "adding wrote the record");
             left.copy_from_slice(lent);
             fed
         }))

@@ -1,7 +1,7 @@
 //! What is under test, behind one trait, and its answers as plain bytes.
 
-use cases::records::{OLD, PRESENT, SPOT, cut};
-use cases::{Ask, Asked, Case, Feed, Given, Raw, Scene, Set, Start};
+use cases::records::{OLD, PRESENT, SIZED, SPOT, cut};
+use cases::{Ask, Asked, Case, Feed, Given, Keep, Keeping, Raw, Scene, Set, Start};
 
 #[cfg(feature = "archive")]
 pub mod archive;
@@ -16,6 +16,8 @@ pub mod process;
 #[cfg(feature = "archive")]
 mod scene;
 pub mod stored;
+#[cfg(feature = "archive")]
+pub mod stores;
 
 /// An answer of detection or the join: a count, or a refusal with its number and index.
 #[derive(Clone, Copy, Debug, PartialEq, Eq)]
@@ -31,7 +33,7 @@ pub struct Correction {
     pub cause: u8,
 }
 
-/// An answer of a feed's column, of a whole scene or of a run from a table's slot: 0 or a refusal's number, and the value beside it.
+/// An answer of a feed's column, of a whole scene, of a run from a table's slot or of a store: 0 or a refusal's number, and the value beside it.
 #[derive(Clone, Copy, Debug, PartialEq, Eq)]
 pub struct Fed {
     pub number: u32,
@@ -192,6 +194,11 @@ pub trait Subject {
         None
     }
 
+    /// A call on a lent store.
+    fn store_call(&mut self, _store: &mut [u8], _keep: &Keep) -> Option<Fed> {
+        None
+    }
+
     /// An inner function on words: a bool is 1.0 or 0.0, an absent number is no word, an absent statistic minus the number of its cause.
     fn inner(&mut self, _function: &str, _set: &Set, _words: &[f32]) -> Option<Vec<f32>> {
         None
@@ -225,6 +232,16 @@ pub fn answer(subject: &mut dyn Subject, case: &Case) -> Option<Vec<u8>> {
         Case::Fed { feeds, given } => fed(subject, feeds, given),
         Case::Tiled { .. } => tiled(subject, case),
         Case::Desks { table, calls } => asked(subject, table, calls),
+        Case::Stores {
+            scene: Some(scene),
+            store,
+            calls,
+        } => kept_of(subject, scene, store, calls),
+        Case::Stores { store, calls, .. } => {
+            let mut bytes = Vec::new();
+            kept(subject, &mut store.clone(), calls, &mut bytes)?;
+            Some(bytes)
+        }
         Case::Inner {
             function,
             set,
@@ -447,6 +464,79 @@ pub fn ask(
     };
     let number = subject.desk_call(lent, desk, slot, asked)?;
     Some(Fed { number, value: 0 })
+}
+
+/// Calls on a store: of each the reply, and the whole room that the store stands in. The last call's answer.
+fn kept(
+    subject: &mut dyn Subject,
+    store: &mut [u8],
+    calls: &[Keeping],
+    bytes: &mut Vec<u8>,
+) -> Option<Fed> {
+    let mut last = Fed {
+        number: 0,
+        value: 0,
+    };
+    for call in calls {
+        let turned = turned(store, call);
+        last = subject.store_call(&mut store[..call.lent], &call.keep)?;
+        bytes.extend(last.told().into_bytes());
+        bytes.extend(&*store);
+        turn_back(store, turned, last);
+    }
+    Some(last)
+}
+
+/// Turns the bits that a call finds turned.
+pub fn turned(store: &mut [u8], call: &Keeping) -> Option<(usize, u8)> {
+    if let Some((place, bits)) = call.spoilt {
+        store[place] ^= bits;
+    }
+    call.spoilt
+}
+
+/// Turns them back after a refusal.
+pub fn turn_back(store: &mut [u8], turned: Option<(usize, u8)>, fed: Fed) {
+    if let Some((place, bits)) = turned.filter(|_| fed.number != 0) {
+        store[place] ^= bits;
+    }
+}
+
+/// What detection lists of a scene added to a store, then calls on it, then the join of what the last one has closed up.
+fn kept_of(
+    subject: &mut dyn Subject,
+    scene: &Scene,
+    store: &[u8],
+    calls: &[Keeping],
+) -> Option<Vec<u8>> {
+    let (rows, cols) = (scene.rows, scene.cols);
+    let mut list = vec![0u8; 2 * SPOT * rows * cols];
+    let reply = subject.detect(scene, &mut list)?;
+    let Reply::Done(count) = reply else {
+        return Some(with_reply(reply, &[]));
+    };
+    let lent = calls.last().map_or(0, |call| call.lent);
+    let add = |record: &[u8]| Keeping {
+        lent,
+        spoilt: None,
+        keep: Keep::Add {
+            sides: (rows, cols),
+            spot: record.to_vec(),
+        },
+    };
+    let found = list[..SPOT * count].chunks_exact(SPOT).map(add);
+    let calls: Vec<Keeping> = found.chain(calls.iter().cloned()).collect();
+    let (mut store, mut bytes) = (store.to_vec(), Vec::new());
+    let last = kept(subject, &mut store, &calls, &mut bytes)?;
+    let live = if last.number == 0 {
+        last.value as usize
+    } else {
+        0
+    };
+    let mut out = vec![0x5au8; SIZED * live];
+    let reply = subject.join(&scene.set, rows, cols, &store[..SPOT * live], &mut out)?;
+    bytes.extend(with_reply(reply, &out));
+    Some(bytes)
 }
 
 /// Floats of any bits, another at each place.

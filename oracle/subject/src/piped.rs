@@ -1,7 +1,7 @@
 //! The detector's archive of another processor: `answerer` linked with it, run as a process that answers call by call over a pipe.
 
 use crate::{Call, Correction, Fed, Lent, Reply, Subject, Tiling};
-use cases::{Raw, Scene, Set, Start};
+use cases::{Keep, Raw, Scene, Set, Start};
 use std::io::{BufReader, BufWriter, Read, Write};
 use std::process::{Child, ChildStdin, ChildStdout, Command, Stdio};
 
@@ -315,6 +315,29 @@ impl Subject for Piped {
         let number = self.next() as u32;
         let value = self.next() as u64;
         self.read(out);
+        Some(Fed { number, value })
+    }
+
+    fn store_call(&mut self, store: &mut [u8], keep: &Keep) -> Option<Fed> {
+        let (letter, sides) = match *keep {
+            Keep::Clear => (b"e", None),
+            Keep::Add { sides, .. } => (b"p", Some(sides)),
+            Keep::Strike { sides, .. } => (b"x", Some(sides)),
+            Keep::CloseUp { sides } => (b"u", Some(sides)),
+        };
+        self.send(letter);
+        self.bytes(store);
+        if let Some((rows, cols)) = sides {
+            self.numbers(&[rows, cols]);
+        }
+        match keep {
+            Keep::Add { spot, .. } => self.bytes(spot),
+            Keep::Strike { slot, .. } => self.numbers(&[*slot]),
+            _ => {}
+        }
+        let number = self.next() as u32;
+        let value = self.next() as u64;
+        self.read(store);
         Some(Fed { number, value })
     }
 }
