@@ -63,12 +63,10 @@ impl Pool {
         }
     }
 
-    /// A record to add: a good one most often.
-    fn record(&self, random: &mut Random) -> Vec<u8> {
-        match random.once_in(5) {
-            true => random.pick_of(&self.bad).clone(),
-            false => random.pick_of(&self.good).clone(),
-        }
+    /// A bad record, or a good one.
+    fn record(&self, random: &mut Random, bad: bool) -> Vec<u8> {
+        let of = if bad { &self.bad } else { &self.good };
+        random.pick_of(of).clone()
     }
 
     /// The bytes of so many slots of a kind, and some behind.
@@ -78,7 +76,7 @@ impl Pool {
             let live = match kind {
                 Kind::New => false,
                 Kind::Full => true,
-                Kind::Held | Kind::Damaged | Kind::Any => random.once_in(2),
+                Kind::Held | Kind::Damaged | Kind::Zeros | Kind::Any => random.once_in(2),
             };
             match live {
                 true => store.extend(random.pick_of(&self.good)),
@@ -90,10 +88,15 @@ impl Pool {
                 .iter_mut()
                 .for_each(|byte| *byte = random.word() as u8);
         }
+        if kind == Kind::Zeros {
+            store.fill(0);
+        }
         if kind == Kind::Damaged && slots > 0 {
-            for _ in 0..random.from_to(1, 2) {
-                let (place, bits) = unreadable(random, slots);
-                store[place] ^= bits;
+            let (place, bits) = unreadable(random, slots);
+            store[place] ^= bits;
+            let (slot, bad) = (slot_of(random, slots), self.record(random, true));
+            if bad.len() == SPOT {
+                store[SPOT * slot..][..SPOT].copy_from_slice(&bad);
             }
         }
         let behind = random.from_to(SPOT, 2 * SPOT);
@@ -111,8 +114,10 @@ pub enum Kind {
     Held,
     /// No free slot.
     Full,
-    /// Slots free or not, of which one or two can't be read.
+    /// Slots free or not, of which one or two can't be read, or hold a bad record.
     Damaged,
+    /// Zeros, as new memory may be.
+    Zeros,
     /// Any bytes.
     Any,
 }
@@ -150,8 +155,35 @@ fn spoilt(
 /// A byte of one of so many slots, and bits that make the slot unreadable for every map, whether it is free or not.
 fn unreadable(random: &mut Random, slots: usize) -> (usize, u8) {
     let any = random.from_to(1, 255) as u8;
-    let (place, bits) = random.pick(&[(35, 128), (36, 128), (37, 128), (POLARITY, 130), (39, any)]);
+    let (place, bits) = random.pick(&[
+        (35, 128),
+        (36, 128),
+        (37, 128),
+        (POLARITY, 130),
+        (39, any),
+        (MOVED + 3, 64),
+        (SPOT - 1, 64),
+    ]);
     (SPOT * slot_of(random, slots) + place, bits)
+}
+
+/// A byte of a record and bits of it: the octave's, the index's, the polarity's or a sign half of the time.
+fn anywhere(random: &mut Random) -> (usize, u8) {
+    let any = random.from_to(1, 255) as u8;
+    let place = random.below(SPOT);
+    match random.once_in(2) {
+        true => random.pick(&[
+            (36, 2),
+            (36, 3),
+            (36, 6),
+            (37, 3),
+            (POLARITY, 254),
+            (POLARITY, 255),
+            (3, 128),
+            (7, 128),
+        ]),
+        false => (place, random.pick(&[1, 2, 128, 254, 255, any])),
+    }
 }
 
 /// One of so many slots, at least one: the first, the middle or the last one often.
@@ -229,7 +261,7 @@ impl History<'_> {
         }
     }
 
-    /// A byte whose bits are turned for a call: of a slot that is lent, one in sixteen times; any byte, or so that the slot can't be read.
+    /// A byte whose bits are turned for a call: of a slot that is lent, one in sixteen times; any bits, or such that the slot can't be read.
     fn damage(&self, random: &mut Random, lent: usize) -> Option<(usize, u8)> {
         let slots = lent / SPOT;
         if slots == 0 || !random.once_in(16) {
@@ -238,9 +270,8 @@ impl History<'_> {
         if random.once_in(2) {
             return Some(unreadable(random, slots));
         }
-        let place = SPOT * slot_of(random, slots) + random.below(SPOT);
-        let any = random.from_to(1, 255) as u8;
-        Some((place, random.pick(&[1, 2, 128, 254, 255, any])))
+        let (place, bits) = anywhere(random);
+        Some((SPOT * slot_of(random, slots) + place, bits))
     }
 
     /// A call.
@@ -258,7 +289,8 @@ impl History<'_> {
                     true => random.pick(self.pools),
                     false => self.pools[0],
                 };
-                let spot = of.record(random);
+                let bad = random.once_in(5);
+                let spot = of.record(random, bad);
                 Keep::Add { sides, spot }
             }
             turn if turn <= strike => {
@@ -316,7 +348,7 @@ fn lively(random: &mut Random, pools: &[&Pool], kind: Kind) -> Case {
             mood_now = mood(random);
         }
         let mut call = history.call(random, mood_now);
-        if place == 5 && matches!(kind, Kind::Damaged | Kind::Any) {
+        if place == 5 && matches!(kind, Kind::Damaged | Kind::Zeros | Kind::Any) {
             (call.lent, call.keep) = (SPOT * slots, Keep::Clear);
         }
         calls.push(call);
@@ -371,23 +403,26 @@ fn day(random: &mut Random) -> Case {
     }
 }
 
-/// One of each call, with faults by the number: of the sides, the length, a slot; then a record that is bad, and a store without a free slot or a slot without a
-/// spot. The store has live slots before free ones, so that it is full where no free one is lent.
-fn faulty(random: &mut Random, pool: &Pool, turn: usize) -> Case {
-    let [size, length, bad_slot, bad, last] = chosen(turn % FAULTS);
-    let (live, empty) = (random.from_to(1, 5), random.from_to(1, 3));
+/// Live slots before free ones, and bytes behind: full where no free one is lent.
+fn live_first(random: &mut Random, pool: &Pool, live: usize, empty: usize) -> Vec<u8> {
     let mut store = pool.store(random, Kind::Full, live);
     let behind = store.split_off(SPOT * live);
     store.extend(free().repeat(empty));
     store.extend(behind);
+    store
+}
+
+/// One of each call, with faults by the number: of the sides, the length, a slot; then a record that is bad, and a store without a free slot or a slot without a
+/// spot.
+fn faulty(random: &mut Random, pool: &Pool, turn: usize) -> Case {
+    let [size, length, bad_slot, bad, last] = chosen(turn % FAULTS);
+    let (live, empty) = (random.from_to(1, 5), random.from_to(1, 3));
+    let store = live_first(random, pool, live, empty);
     let sides = match size {
         true => too_long(random, pool.sides),
         false => pool.sides,
     };
-    let spot = match bad {
-        true => random.pick_of(&pool.bad).clone(),
-        false => random.pick_of(&pool.good).clone(),
-    };
+    let spot = pool.record(random, bad);
     let past = past(random, live + empty);
     let slot = match last {
         true => random.pick(&[live, live + empty - 1, past, past]),
@@ -399,29 +434,29 @@ fn faulty(random: &mut Random, pool: &Pool, turn: usize) -> Case {
         Keep::CloseUp { sides },
         Keep::Clear,
     ];
-    let calls = all.into_iter().map(|keep| {
+    let calls = all.map(|keep| {
         let full = last && matches!(keep, Keep::Add { .. });
         let slots = if full { live } else { live + empty };
-        let over = if length {
-            random.from_to(1, SPOT - 1)
-        } else {
-            0
+        let over = match length {
+            true => random.from_to(1, SPOT - 1),
+            false => 0,
         };
-        Keeping {
-            lent: SPOT * slots + over,
-            spoilt: bad_slot.then(|| unreadable(random, slots)),
-            keep,
-        }
+        let (lent, spoilt) = (
+            SPOT * slots + over,
+            bad_slot.then(|| unreadable(random, slots)),
+        );
+        Keeping { lent, spoilt, keep }
     });
+    let (scene, calls) = (None, calls.into());
     Case::Stores {
-        scene: None,
-        calls: calls.collect(),
+        scene,
         store,
+        calls,
     }
 }
 
-/// The case of a number: of eight one each on a new store, one with free slots, a full one, a damaged one, one of any bytes or a damaged one, and one of
-/// detection's spots; two with all choices of faults in turn.
+/// The case of a number: of eight one each on a new store, one with free slots, a full one, a damaged one, one of any bytes or zeros, and one of detection's
+/// spots; two with all choices of faults in turn.
 pub fn history(random: &mut Random, number: usize) -> Case {
     let sides = random.pick(&SIDES);
     let other = random.pick(&SIDES);
@@ -433,7 +468,7 @@ pub fn history(random: &mut Random, number: usize) -> Case {
         2 => lively(random, pools, Kind::Full),
         3 => lively(random, pools, Kind::Damaged),
         4 => {
-            let kind = random.pick(&[Kind::Any, Kind::Damaged]);
+            let kind = random.pick(&[Kind::Any, Kind::Zeros]);
             lively(random, pools, kind)
         }
         5 => day(random),

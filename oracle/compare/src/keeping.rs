@@ -12,7 +12,7 @@ use std::time::Instant;
 use subject::archive::Archive;
 use subject::guarded::{Room, Side};
 use subject::stores::called;
-use subject::{Fed, Reply, Subject, turn_back, turned};
+use subject::{Fed, Reply, Subject, turn, turn_back};
 
 /// Apart from the families' own sources.
 const SOURCE: u64 = 1 << 38;
@@ -26,7 +26,7 @@ const SPELL: usize = 25;
 /// In how many closings up one is followed by the join of what it leaves.
 const JOINED: usize = 16;
 /// What stores hold at first, in turn: those on which most calls are refused come seldom.
-const KINDS: [Kind; 8] = [
+const KINDS: [Kind; 9] = [
     Kind::New,
     Kind::Held,
     Kind::Full,
@@ -34,6 +34,7 @@ const KINDS: [Kind; 8] = [
     Kind::New,
     Kind::Full,
     Kind::Damaged,
+    Kind::Zeros,
     Kind::Any,
 ];
 /// Maps whose spots are records of histories, and how many spots they must have.
@@ -73,7 +74,7 @@ impl<'a> Both<'a> {
     fn called(&mut self, call: &Keeping, before: &[u8], due: &[u8]) -> (Fed, bool) {
         let spot = self.spot.lend(self.side, call.keep.spot());
         if call.lent == self.store.len() {
-            turned(self.store, call);
+            turn(self.store, call);
             let fed = called(self.store, &call.keep, spot);
             return (fed, *self.store == *due);
         }
@@ -86,7 +87,7 @@ impl<'a> Both<'a> {
 
     /// One call of both, counted: where they part.
     fn step(&mut self, call: &Keeping, seen: &mut Stores) -> Result<Fed, String> {
-        turned(&mut self.sound, call);
+        turn(&mut self.sound, call);
         let before = self.sound[..call.lent].to_vec();
         let lent = &mut self.sound[..call.lent];
         let sound = Judge::sound().store_call(lent, &call.keep);
@@ -98,7 +99,7 @@ impl<'a> Both<'a> {
         } else if !kept {
             format!("{fed:?}, the store is not the judge's")
         } else {
-            turn_back(&mut self.sound, call.spoilt, fed);
+            turn_back(&mut self.sound, call, fed);
             let own = self.store.len();
             self.store.copy_from_slice(&self.sound[..own]);
             return Ok(fed);

@@ -221,8 +221,6 @@ fn tally(seed: u64, times: usize) -> bool {
     let unjoined = (!unjoined.is_empty()).then(|| format!("no join answers {unjoined:?}"));
     let unasked = tally.desks.not_reached();
     let unasked = (!unasked.is_empty()).then(|| format!("no call of a desk has {unasked:?}"));
-    let unkept = tally.stores.not_reached();
-    let unkept = (!unkept.is_empty()).then(|| format!("no call on a store has {unkept:?}"));
     own::told(
         "every-gate-rejects",
         fault,
@@ -272,16 +270,7 @@ fn tally(seed: u64, times: usize) -> bool {
             tally.desks.odd(),
             "the length, the desk, the slot, its owner, its count; of a run the map's and the set's; of a write the record's",
         )
-        & own::told(
-            "every-answer-of-a-store-is-reached",
-            unkept,
-            "clearing's 0 and 5, adding's 0, 1, 5 and 6, striking's 0, 1, 5 and 13, closing up's 0, 1 and 5; every two causes at once; slots at either end",
-        )
-        & own::told(
-            "a-store-is-answered-by-its-first-cause",
-            tally.stores.odd(),
-            "the sides, the length, a slot, the record, no free slot, no spot; with the value due",
-        )
+        & tally.stores.sound()
 }
 
 /// A subject against the judge: every family but the scenes, which `compare scenes` has.

@@ -1,6 +1,7 @@
 //! What calls on a store are refused for, counted, and what they find and leave.
 
 use crate::judged::Judge;
+use crate::own::told;
 use cases::stores::{LONGEST, MARK, POLARITY};
 use cases::{Keep, Scene, Set};
 use judge::{SPOT, readable};
@@ -108,7 +109,7 @@ fn seen<'a>(store: &'a [u8], (rows, cols): (usize, usize)) -> Seen<'a> {
 }
 
 /// All causes that a call has, whichever is answered, and the answer due by the first of them.
-fn told(keep: &Keep, store: &Seen, size: bool, (rows, cols): (usize, usize)) -> (Causes, Fed) {
+fn due(keep: &Keep, store: &Seen, size: bool, (rows, cols): (usize, usize)) -> (Causes, Fed) {
     let count = store.slots.len();
     let mut causes = [false; CAUSES.len()];
     causes[LENGTH] = store.over > 0;
@@ -212,7 +213,7 @@ impl Stores {
         let size = sides.0 > LONGEST || sides.1 > LONGEST;
         let sides = if size { (LONGEST, LONGEST) } else { sides };
         let store = seen(store, sides);
-        let (causes, due) = told(keep, &store, size, sides);
+        let (causes, due) = due(keep, &store, size, sides);
         self.calls += 1;
         self.most = self.most.max(store.slots.len());
         *self.answers[of].entry(fed.number).or_default() += 1;
@@ -243,7 +244,7 @@ impl Stores {
         let lowest = store.lowest.unwrap_or(count);
         match keep {
             Keep::Clear => {
-                // whatever the sides, a slot that is neither free nor marked otherwise than a record
+                // bad for every map
                 let damaged = |slot: &Slot| !free(slot) && slot[POLARITY] > 1;
                 self.sight("a damaged store cleared", store.slots.iter().any(damaged));
             }
@@ -318,6 +319,21 @@ impl Stores {
         all.extend(SIGHTS.iter().filter(unseen).map(ToString::to_string));
         all.dedup();
         all
+    }
+
+    /// Whether every answer is reached and each call answered by the first of its causes.
+    pub fn sound(&self) -> bool {
+        let missed = self.not_reached();
+        let missed = (!missed.is_empty()).then(|| format!("no call on a store has {missed:?}"));
+        told(
+            "every-answer-of-a-store-is-reached",
+            missed,
+            "clearing's 0 and 5, adding's 0, 1, 5 and 6, striking's 0, 1, 5 and 13, closing up's 0, 1 and 5; every two causes at once; slots at either end",
+        ) & told(
+            "a-store-is-answered-by-its-first-cause",
+            self.odd(),
+            "the sides, the length, a slot, the record, no free slot, no spot; with the value due",
+        )
     }
 
     /// How often each answer was given, and how often each pair of causes was met at least.

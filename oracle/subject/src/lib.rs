@@ -232,16 +232,7 @@ pub fn answer(subject: &mut dyn Subject, case: &Case) -> Option<Vec<u8>> {
         Case::Fed { feeds, given } => fed(subject, feeds, given),
         Case::Tiled { .. } => tiled(subject, case),
         Case::Desks { table, calls } => asked(subject, table, calls),
-        Case::Stores {
-            scene: Some(scene),
-            store,
-            calls,
-        } => kept_of(subject, scene, store, calls),
-        Case::Stores { store, calls, .. } => {
-            let mut bytes = Vec::new();
-            kept(subject, &mut store.clone(), calls, &mut bytes)?;
-            Some(bytes)
-        }
+        Case::Stores { .. } => kept(subject, case),
         Case::Inner {
             function,
             set,
@@ -466,8 +457,58 @@ pub fn ask(
     Some(Fed { number, value: 0 })
 }
 
-/// Calls on a store: of each the reply, and the whole room that the store stands in. The last call's answer.
-fn kept(
+/// Calls on a store: of each the reply, and the whole room that the store stands in. With a scene what detection lists of it is added first, and what the last
+/// call has closed up is joined.
+fn kept(subject: &mut dyn Subject, case: &Case) -> Option<Vec<u8>> {
+    let Case::Stores {
+        scene,
+        store,
+        calls,
+    } = case
+    else {
+        return None;
+    };
+    let (mut store, mut bytes) = (store.to_vec(), Vec::new());
+    let Some(scene) = scene else {
+        keep_all(subject, &mut store, calls, &mut bytes)?;
+        return Some(bytes);
+    };
+    let found = found(subject, scene, calls.last().map_or(0, |call| call.lent))?;
+    let last = keep_all(
+        subject,
+        &mut store,
+        &[&found, &calls[..]].concat(),
+        &mut bytes,
+    )?;
+    let live = match last {
+        Fed { number: 0, value } => value as usize,
+        _ => 0,
+    };
+    let (set, list) = (&scene.set, &store[..SPOT * live]);
+    let mut out = vec![0x5au8; SIZED * live];
+    let reply = subject.join(set, scene.rows, scene.cols, list, &mut out)?;
+    bytes.extend(with_reply(reply, &out));
+    Some(bytes)
+}
+
+/// The calls that add what detection lists of a scene to a store of so many bytes.
+fn found(subject: &mut dyn Subject, scene: &Scene, lent: usize) -> Option<Vec<Keeping>> {
+    let sides = (scene.rows, scene.cols);
+    let mut list = vec![0u8; 2 * SPOT * sides.0 * sides.1];
+    let count = match subject.detect(scene, &mut list)? {
+        Reply::Done(count) => count,
+        Reply::Refused { .. } => 0,
+    };
+    let add = |record: &[u8]| {
+        let (spot, spoilt) = (record.to_vec(), None);
+        let keep = Keep::Add { sides, spot };
+        Keeping { lent, spoilt, keep }
+    };
+    Some(list[..SPOT * count].chunks_exact(SPOT).map(add).collect())
+}
+
+/// Calls on a store one after another: the last one's answer.
+fn keep_all(
     subject: &mut dyn Subject,
     store: &mut [u8],
     calls: &[Keeping],
@@ -478,65 +519,27 @@ fn kept(
         value: 0,
     };
     for call in calls {
-        let turned = turned(store, call);
+        turn(store, call);
         last = subject.store_call(&mut store[..call.lent], &call.keep)?;
         bytes.extend(last.told().into_bytes());
         bytes.extend(&*store);
-        turn_back(store, turned, last);
+        turn_back(store, call, last);
     }
     Some(last)
 }
 
 /// Turns the bits that a call finds turned.
-pub fn turned(store: &mut [u8], call: &Keeping) -> Option<(usize, u8)> {
+pub fn turn(store: &mut [u8], call: &Keeping) {
     if let Some((place, bits)) = call.spoilt {
         store[place] ^= bits;
     }
-    call.spoilt
 }
 
 /// Turns them back after a refusal.
-pub fn turn_back(store: &mut [u8], turned: Option<(usize, u8)>, fed: Fed) {
-    if let Some((place, bits)) = turned.filter(|_| fed.number != 0) {
-        store[place] ^= bits;
+pub fn turn_back(store: &mut [u8], call: &Keeping, fed: Fed) {
+    if fed.number != 0 {
+        turn(store, call);
     }
-}
-
-/// What detection lists of a scene added to a store, then calls on it, then the join of what the last one has closed up.
-fn kept_of(
-    subject: &mut dyn Subject,
-    scene: &Scene,
-    store: &[u8],
-    calls: &[Keeping],
-) -> Option<Vec<u8>> {
-    let (rows, cols) = (scene.rows, scene.cols);
-    let mut list = vec![0u8; 2 * SPOT * rows * cols];
-    let reply = subject.detect(scene, &mut list)?;
-    let Reply::Done(count) = reply else {
-        return Some(with_reply(reply, &[]));
-    };
-    let lent = calls.last().map_or(0, |call| call.lent);
-    let add = |record: &[u8]| Keeping {
-        lent,
-        spoilt: None,
-        keep: Keep::Add {
-            sides: (rows, cols),
-            spot: record.to_vec(),
-        },
-    };
-    let found = list[..SPOT * count].chunks_exact(SPOT).map(add);
-    let calls: Vec<Keeping> = found.chain(calls.iter().cloned()).collect();
-    let (mut store, mut bytes) = (store.to_vec(), Vec::new());
-    let last = kept(subject, &mut store, &calls, &mut bytes)?;
-    let live = if last.number == 0 {
-        last.value as usize
-    } else {
-        0
-    };
-    let mut out = vec![0x5au8; SIZED * live];
-    let reply = subject.join(&scene.set, rows, cols, &store[..SPOT * live], &mut out)?;
-    bytes.extend(with_reply(reply, &out));
-    Some(bytes)
 }
 
 /// Floats of any bits, another at each place.
