@@ -502,12 +502,15 @@ impl Subject for Archive {
         }))
     }
 
-    /// On copies of the store and of the record beside the page, by the C function.
+    /// On copies of the store and of the record beside the page.
     fn store_call(&mut self, store: &mut [u8], keep: &Keep) -> Option<Fed> {
         Some(both_sides(store, |side, left| {
             let lent = self.out.lend(side, left);
             let spot = self.list.lend(side, keep.spot());
-            let fed = stores::called(lent, keep, spot);
+            let fed = match side {
+                Side::Before => stores::wrapped(lent, keep, spot),
+                Side::Behind => stores::called(lent, keep, spot),
+            };
             assert!(spot == keep.spot(), "adding wrote the record");
             left.copy_from_slice(lent);
             fed

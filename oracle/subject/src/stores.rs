@@ -1,35 +1,45 @@
-//! The archive's calls on a store, as C has them.
+//! The archive's calls on a store: by the wrapper, and as C has them.
 
 use crate::Fed;
 use cases::Keep;
+use uramsheg::{BadStore, Refusal, SPOT_BYTES, Store, raw};
 
-mod raw {
-    unsafe extern "C" {
-        pub fn uramsheg_store_clear(store: *mut u8, store_length: usize, value: *mut u64) -> u32;
-        pub fn uramsheg_store_add(
-            store: *mut u8,
-            store_length: usize,
-            rows: usize,
-            cols: usize,
-            spot: *const u8,
-            spot_length: usize,
-            value: *mut u64,
-        ) -> u32;
-        pub fn uramsheg_store_strike(
-            store: *mut u8,
-            store_length: usize,
-            rows: usize,
-            cols: usize,
-            slot: usize,
-            value: *mut u64,
-        ) -> u32;
-        pub fn uramsheg_store_close_up(
-            store: *mut u8,
-            store_length: usize,
-            rows: usize,
-            cols: usize,
-            value: *mut u64,
-        ) -> u32;
+/// The wrapper's answer; `spot` is the record of an adding.
+pub fn wrapped(store: &mut [u8], keep: &Keep, spot: &[u8]) -> Fed {
+    let slots = store.len() / SPOT_BYTES;
+    let done = match *keep {
+        Keep::Clear => Store::from_bytes(0, 0, store).clear().map(|()| 0),
+        Keep::Add {
+            sides: (rows, cols),
+            ..
+        } => Store::from_bytes(rows, cols, store).add_record(spot),
+        Keep::Strike {
+            sides: (rows, cols),
+            slot,
+        } => Store::from_bytes(rows, cols, store)
+            .strike(slot)
+            .map(|()| 0),
+        Keep::CloseUp {
+            sides: (rows, cols),
+        } => Store::from_bytes(rows, cols, store).close_up(),
+    };
+    let (number, value) = match done {
+        Ok(value) => (0, value),
+        Err(refusal) => (refusal.number(), index(refusal, slots)),
+    };
+    Fed {
+        number,
+        value: value as u64,
+    }
+}
+
+/// The index that goes with a refusal, as the wrapper words it, of a store of so many slots.
+fn index(refusal: Refusal, slots: usize) -> usize {
+    match refusal {
+        Refusal::Store(BadStore::Length(length)) => length / SPOT_BYTES,
+        Refusal::Store(BadStore::Slot(slot)) => slot,
+        Refusal::Store(BadStore::Record(_)) => slots,
+        _ => 0,
     }
 }
 
