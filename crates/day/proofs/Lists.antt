@@ -21,10 +21,10 @@ use Rattle.sized.specs.Sized.{sizedWidth}
 use Rattle.join.specs.Join.{joinChecks, joinOf}
 use Rattle.join.specs.declared.Joined.the-variants.{Count}
 use Rattle.join.proofs.TakenLaws.{Taken, taken-records, taken-joined}
-use Rattle.store.specs.Slots.{freeBytes, isFree, slotsOf, flat}
-use Rattle.store.specs.Store.{CloseUp, badSlot, callChecks, liveSlots, closedUp, answerOf, slotsAfter, Outcome, outcome, callOf}
+use Rattle.store_slots.specs.Slots.{freeBytes, isFree, slotsOf, flat, badSlot}
+use Rattle.store.specs.Store.{CloseUp, callChecks, liveSlots, closedUp, answerOf, slotsAfter, Outcome, outcome, callOf}
 use Rattle.store.specs.declared.Stored.the-variants.{Live}
-use Rattle.store.proofs.SlotLaws.{sized-slots, length-flat, free-is, free-is-free, count-of, slotsOf-flat, flat-slotsOf, slot-is}
+use Rattle.store_slots.proofs.SlotLaws.{sized-slots, length-flat, free-is, free-is-free, count-of, slotsOf-flat, flat-slotsOf, slot-is}
 use Rattle.store.proofs.StoreLaws.{close-passed, sized-live, sized-closed, call-done, done-fine}
 use Rattle.day.specs.Claims.{Closed, listOf}
 

@@ -15,11 +15,11 @@ use Rattle.tables.specs.Refusal.{firstOf, unless}
 use Rattle.record.specs.Layout.{spotWidth, recordWith, recordFrom}
 use Rattle.record.specs.Readable.{readable}
 use Rattle.record.proofs.ReadableLaws.{readable-parts}
-use Rattle.store.specs.Slots.{mark, freeBytes, isFree, slotsOf, firstWhere}
-use Rattle.store.specs.Store.{Add, Strike, CloseUp, badSlot, goodNew, callChecks, callOf}
+use Rattle.store_slots.specs.Slots.{mark, freeBytes, isFree, slotsOf, firstWhere, badSlot}
+use Rattle.store.specs.Store.{Add, Strike, CloseUp, goodNew, callChecks, callOf}
 use Rattle.store.specs.declared.Stored.the-variants.{Refused}
-use Rattle.store.proofs.SlotLaws.{free-is-free, count-of}
-use Rattle.store.proofs.SearchLaws.{where-holds, where-first}
+use Rattle.store_slots.proofs.SlotLaws.{free-is-free, count-of}
+use Rattle.store_slots.proofs.SearchLaws.{where-holds, where-first}
 use Rattle.store.proofs.StoreLaws.{add-over, add-stops, strike-over, strike-stops, refusal-of}
 use Rattle.day.specs.Claims.{WrongLength, FirstBad, BadNew}
 

@@ -11,10 +11,10 @@ use Rattle.tables.specs.declared.Checked.the-variants.{Fine, Bad}
 use Rattle.tables.specs.Refusal.{firstOf, unless}
 use Rattle.record.specs.Layout.{spotWidth, recordFrom}
 use Rattle.record.specs.Readable.{readable}
-use Rattle.store.specs.Slots.{freeBytes, isFree, slotsOf, firstWhere}
-use Rattle.store.specs.Store.{Call, Clear, Add, Strike, CloseUp, badSlot, goodNew, callChecks, liveSlots, closedUp, answerOf, slotsAfter, callOf}
+use Rattle.store_slots.specs.Slots.{freeBytes, isFree, slotsOf, firstWhere, badSlot}
+use Rattle.store.specs.Store.{Call, Clear, Add, Strike, CloseUp, goodNew, callChecks, liveSlots, closedUp, answerOf, slotsAfter, callOf}
 use Rattle.store.specs.declared.Stored.{Stored}
-use Rattle.store.proofs.SlotLaws.{free-is-free, readable-not-free, count-of, slotsOf-flat}
+use Rattle.store_slots.proofs.SlotLaws.{free-is-free, readable-not-free, count-of, slotsOf-flat}
 use Rattle.store.proofs.StoreLaws.{add-passed, sized-after, call-done, call-refused, length-kept}
 use Rattle.day.specs.Model.{result, isNone, lowest, live, firstBad, listChecks, doneList, endedList, callList}
 use Rattle.day.specs.Runs.{bufferAfter, answersOf, listAfter, listAnswers, spotOf, spotsBy, recordIn, spotsOf, bytesIn}

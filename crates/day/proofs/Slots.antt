@@ -12,11 +12,11 @@ use Rattle.tables.specs.declared.Refusal.the-variants.{Size, Records, Room, NoS
 use Rattle.tables.specs.declared.Checked.the-variants.{Fine, Bad}
 use Rattle.tables.specs.Refusal.{firstOf, unless}
 use Rattle.record.specs.Layout.{spotWidth}
-use Rattle.store.specs.Slots.{freeBytes, isFree, slotsOf, firstWhere}
-use Rattle.store.specs.Store.{Add, Strike, CloseUp, badSlot, goodNew, callChecks, answerOf, slotsAfter, Outcome, callOf}
+use Rattle.store_slots.specs.Slots.{freeBytes, isFree, slotsOf, firstWhere, badSlot}
+use Rattle.store.specs.Store.{Add, Strike, CloseUp, goodNew, callChecks, answerOf, slotsAfter, Outcome, callOf}
 use Rattle.store.specs.declared.Stored.the-variants.{Done, At, Refused}
-use Rattle.store.proofs.SlotLaws.{free-is-free, count-of, slotsOf-flat, past-free, live-inside}
-use Rattle.store.proofs.SearchLaws.{where-holds, where-first, where-is, where-none}
+use Rattle.store_slots.proofs.SlotLaws.{free-is-free, count-of, slotsOf-flat, past-free, live-inside}
+use Rattle.store_slots.proofs.SearchLaws.{where-holds, where-first, where-is, where-none}
 use Rattle.store.proofs.StoreLaws.{Passed, strike-passed, add-passed, add-over, strike-over, sized-after, call-done, call-refused, refusal-of, done-fine, length-kept}
 use Rattle.day.proofs.Refusals.{free-fair}
 use Rattle.day.specs.Claims.{slotAt, Lowest, Full}

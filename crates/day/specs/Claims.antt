@@ -5,8 +5,8 @@ use mathlib.Core.List.{List}
 use mathlib.Core.Path.{_≡_}
 use lib.ListN.{length, getD, take}
 use Rattle.record.specs.Layout.{spotWidth}
-use Rattle.store.specs.Slots.{freeBytes, isFree, slotsOf}
-use Rattle.store.specs.Store.{badSlot, goodNew}
+use Rattle.store_slots.specs.Slots.{freeBytes, isFree, slotsOf, badSlot}
+use Rattle.store.specs.Store.{goodNew}
 
 -- the i-th slot of a buffer; past the end a free one
 abbrev pub slotAt : List ℕ → ℕ → List ℕ

@@ -5,7 +5,7 @@ use mathlib.Core.List.{List, [], _∷_, map}
 use mathlib.Core.Option.{Option, none, some}
 use Rattle.record.specs.declared.Record.{Record}
 use Rattle.record.specs.Layout.{recordFrom}
-use Rattle.store.specs.Slots.{isFree, slotsOf}
+use Rattle.store_slots.specs.Slots.{isFree, slotsOf}
 use Rattle.store.specs.Store.{Call, callOf}
 use Rattle.store.specs.declared.Stored.{Stored}
 use Rattle.day.specs.Model.{callList}

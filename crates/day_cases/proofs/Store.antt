@@ -9,8 +9,8 @@ use Rattle.moves.specs.Moves.{nearby}
 use Rattle.tables.specs.Refusal.{number, value, unless, firstOf}
 use Rattle.record.specs.Layout.{recordWith, recordFrom}
 use Rattle.record.specs.Readable.{finiteRecord, within, onSide, readable}
-use Rattle.store.specs.Slots.{freeBytes, same, isFree, slotsFrom, flat, firstWhere}
-use Rattle.store.specs.Store.{badSlot, goodNew, callChecks, liveSlots, closedUp, answerOf, slotsAfter, finished, callOf}
+use Rattle.store_slots.specs.Slots.{freeBytes, same, isFree, slotsFrom, flat, firstWhere, badSlot}
+use Rattle.store.specs.Store.{goodNew, callChecks, liveSlots, closedUp, answerOf, slotsAfter, finished, callOf}
 use Rattle.face_store.specs.Face.{storedPacked}
 use Rattle.cases.specs.Case.{Case}
 use Rattle.cases.specs.MapM.{oldM, bytesM, minimumM}

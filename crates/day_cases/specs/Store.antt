@@ -2,7 +2,7 @@
 use Prim.Native.Nat.{ℕ}
 use mathlib.Core.List.{List, [], _∷_, _++_}
 use lib.ListN.{replicate, set, take}
-use Rattle.store.specs.Slots.{freeBytes}
+use Rattle.store_slots.specs.Slots.{freeBytes}
 use Rattle.store.specs.Store.{Call, Clear, Add, Strike, CloseUp, callOf}
 use Rattle.face_store.specs.Face.{storedPacked}
 use Rattle.cases.specs.Case.{Case}

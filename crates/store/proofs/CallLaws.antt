@@ -10,10 +10,10 @@ use Rattle.tables.specs.declared.Checked.the-variants.{Fine}
 use Rattle.tables.specs.Refusal.{firstOf, unless}
 use Rattle.record.specs.Layout.{spotWidth}
 use Rattle.store.specs.declared.Stored.the-variants.{Done, At, Live, Refused}
-use Rattle.store.specs.Slots.{freeBytes, isFree, slotsOf, flat, firstWhere}
+use Rattle.store_slots.specs.Slots.{freeBytes, isFree, slotsOf, flat, firstWhere}
 use Rattle.store.specs.Store.{Clear, Add, Strike, CloseUp, callChecks, liveSlots, closedUp, answerOf, slotsAfter, outcome, callOf}
 use Rattle.store.specs.Steps.{Whole, freed}
-use Rattle.store.proofs.SlotLaws.{length-free, count-of, live-inside, slots-set}
+use Rattle.store_slots.proofs.SlotLaws.{length-free, count-of, live-inside, slots-set}
 use Rattle.store.proofs.StoreLaws.{call-done, call-refused, add-passed, strike-passed}
 use Rattle.store.proofs.MovingLaws.{freed-all}
 

@@ -8,10 +8,10 @@ use mathlib.Core.List.{List, [], _∷_, _++_, append-assoc, append-nil}
 use lib.ListN.{length, getD, take, drop, set, replicate, length-set, length-append}
 use lib.Seq.{sets, length-sets, take-all, take-suc, take-suc-set, drop-set-lt, drop-drop, getD-drop}
 use Rattle.record.specs.Layout.{spotWidth}
-use Rattle.store.specs.Slots.{freeBytes, isFree, slotsOf, flat}
+use Rattle.store_slots.specs.Slots.{freeBytes, isFree, slotsOf, flat}
 use Rattle.store.specs.Store.{liveSlots, closedUp}
 use Rattle.store.specs.Steps.{Whole, freed, moved, movedTo}
-use Rattle.store.proofs.SlotLaws.{sized-set, sized-slots, sized-at, length-free, length-flat, slotsOf-flat, flat-slotsOf, slots-set, count-of, slots-stored}
+use Rattle.store_slots.proofs.SlotLaws.{sized-set, sized-slots, sized-at, length-free, length-flat, slotsOf-flat, flat-slotsOf, slots-set, count-of, slots-stored}
 
 -- ---- freeing
 

@@ -19,11 +19,11 @@ use Rattle.record.specs.Layout.{spotWidth, recordFrom}
 use Rattle.record.specs.Readable.{readable}
 use Rattle.store.specs.declared.Stored.{Stored}
 use Rattle.store.specs.declared.Stored.the-variants.{Refused}
-use Rattle.store.specs.Slots.{freeBytes, isFree, slotsOf, flat, firstWhere}
-use Rattle.store.specs.Store.{Call, Clear, Add, Strike, CloseUp, badSlot, goodNew, wholeCheck, slotsCheck, newCheck, roomCheck, spotCheck, callChecks, liveSlots, closedUp, answerOf, slotsAfter, Outcome, outcome, finished, callOf}
+use Rattle.store_slots.specs.Slots.{freeBytes, isFree, slotsOf, flat, firstWhere, badSlot}
+use Rattle.store.specs.Store.{Call, Clear, Add, Strike, CloseUp, goodNew, wholeCheck, slotsCheck, newCheck, roomCheck, spotCheck, callChecks, liveSlots, closedUp, answerOf, slotsAfter, Outcome, outcome, finished, callOf}
 use Rattle.store.specs.Steps.{Whole}
-use Rattle.store.proofs.SlotLaws.{Sized, sized-set, sized-append, sized-frees, sized-slots, length-free, count-of, length-flat}
-use Rattle.store.proofs.SearchLaws.{where-first}
+use Rattle.store_slots.proofs.SlotLaws.{Sized, sized-set, sized-append, sized-frees, sized-slots, length-free, count-of, length-flat}
+use Rattle.store_slots.proofs.SearchLaws.{where-first}
 
 -- ---- live slots
 

@@ -1,4 +1,3 @@
--- The store: a buffer as slots, and what each call answers and leaves.
-pub mod Slots
+-- The store: what each call answers and leaves.
 pub mod Store
 pub mod Steps

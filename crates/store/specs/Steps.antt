@@ -5,7 +5,7 @@ use mathlib.Core.List.{List, [], _++_}
 use mathlib.Core.Path.{_≡_}
 use lib.ListN.{length, getD, take, set, replicate}
 use Rattle.record.specs.Layout.{spotWidth}
-use Rattle.store.specs.Slots.{freeBytes, isFree, slotsOf, flat}
+use Rattle.store_slots.specs.Slots.{freeBytes, isFree, slotsOf, flat}
 
 -- a buffer is whole slots
 abbrev pub Whole : List ℕ → Type 0

@@ -1,6 +1,6 @@
 -- What each call of the store answers, and what it leaves in the buffer, as one value of its input. Definitions only.
 use Prim.Native.Nat.{ℕ, _-_, _/_, _%_}
-use mathlib.Core.Bool.{Bool, not, cond, _&&_, _||_}
+use mathlib.Core.Bool.{Bool, not, cond, _&&_}
 use mathlib.Core.List.{List, [], _∷_, _++_}
 use lib.Dec.{ltb, leb, eqb}
 use lib.ListN.{length, getD, set, replicate}
@@ -10,7 +10,7 @@ use Rattle.tables.specs.declared.Checked.the-variants.{Fine, Bad}
 use Rattle.tables.specs.Refusal.{Check, _when_, firstOf, sidesCheck}
 use Rattle.record.specs.Layout.{spotWidth, recordFrom}
 use Rattle.record.specs.Readable.{readable}
-use Rattle.store.specs.Slots.{freeBytes, isFree, slotsOf, flat, firstWhere}
+use Rattle.store_slots.specs.Slots.{freeBytes, isFree, badSlot, slotsOf, flat, firstWhere}
 use Rattle.store.specs.declared.Stored.{Stored}
 use Rattle.store.specs.declared.Stored.the-variants.{Done, At, Live, Refused}
 
@@ -22,10 +22,6 @@ pub data Call : Type 0 where
   CloseUp : ℕ → ℕ → Call
 
 -- ---- what is checked
-
--- a slot is bad: it is not free, and its record is not readable
-unfoldable pub badSlot : ℕ → ℕ → List ℕ → Bool
-badSlot rows cols s = not (isFree s || readable rows cols (recordFrom s 0))
 
 -- a new record is good: as long as a slot, and readable
 unfoldable pub goodNew : ℕ → ℕ → List ℕ → Bool

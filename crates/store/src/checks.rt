@@ -2,10 +2,10 @@
 ghost use mathlib.Core.Path.{_≡_};
 ghost use Prim.Native.Nat.{_≤_};
 ghost use Rattle.tables.specs.Refusal.{firstOf};
-ghost use Rattle.store.specs.Slots.{isFree, slotsOf, firstWhere};
+ghost use Rattle.store_slots.specs.Slots.{isFree, slotsOf, firstWhere};
 ghost use Rattle.store.specs.Store.{goodNew, callChecks, Add, Strike, CloseUp};
-use crate::search;
 use record::SPOT_WIDTH;
+use store_slots::search;
 use tables::Checked;
 use tables::Refusal;
 

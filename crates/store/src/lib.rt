@@ -1,12 +1,12 @@
 // A day's spots in a lent buffer: slots of one record each, free ones marked. Clear, add, strike, close up.
 mod checks; // checks.rt: each call's checks, in its order
 mod moving; // moving.rt: slots freed from a place on, live ones moved down
-mod search; // search.rt: searches over the slots
-mod slot; // slot.rt: the bytes of one slot
 
 ghost use mathlib.Core.Path.{_≡_};
 ghost use Rattle.store.specs.Store.{outcome, callOf, Clear, Add, Strike, CloseUp};
 use record::SPOT_WIDTH;
+use store_slots::search;
+use store_slots::slot;
 use tables::Checked;
 use tables::Refusal;
 use words::put_first;

@@ -3,11 +3,11 @@ ghost use mathlib.Core.Path.{_≡_};
 ghost use Prim.Native.Nat.{_/_, _≤_, _<_};
 ghost use lib.ListN.{length};
 ghost use Rattle.record.specs.Layout.{spotWidth};
-ghost use Rattle.store.specs.Slots.{flat, slotsOf};
+ghost use Rattle.store_slots.specs.Slots.{flat, slotsOf};
 ghost use Rattle.store.specs.Store.{liveSlots, closedUp};
 ghost use Rattle.store.specs.Steps.{freed, moved, movedTo, Whole};
-use crate::slot;
 use record::SPOT_WIDTH;
+use store_slots::slot;
 use words::put_first;
 
 // Frees the slots from the i-th on.

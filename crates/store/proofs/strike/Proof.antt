@@ -7,7 +7,7 @@ use lib.ListN.{length}
 use lib.Seq.{sets, take-all}
 use Rattle.record.specs.Layout.{spotWidth}
 use Rattle.store.specs.Store.{Strike}
-use Rattle.store.proofs.SlotLaws.{length-free, live-inside}
+use Rattle.store_slots.proofs.SlotLaws.{length-free, live-inside}
 use Rattle.store.proofs.StoreLaws.{strike-passed, call-refused}
 use Rattle.store.proofs.CallLaws.{strike-done}
 use Rattle.store.proofs.strike.Statement.{statement}

@@ -5,7 +5,7 @@ use mathlib.Core.Path.{_≡_, sym, _∙_}
 use mathlib.Core.Bool.{true, false}
 use lib.ListN.{getD}
 use Rattle.tables.specs.Refusal.{firstOf, unless}
-use Rattle.store.specs.Slots.{freeBytes, isFree, slotsOf}
+use Rattle.store_slots.specs.Slots.{freeBytes, isFree, slotsOf}
 use Rattle.store.proofs.StoreLaws.{strike-over, strike-stops}
 use Rattle.store.proofs.checks.strike.Statement.{statement}
 use Rattle.store.proofs.checks.strike.Tie as tie

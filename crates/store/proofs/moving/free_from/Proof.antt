@@ -7,7 +7,7 @@ use lib.ListN.{length}
 use lib.Seq.{sets, take-all}
 use Rattle.record.specs.Layout.{spotWidth}
 use Rattle.store.specs.Steps.{Whole, freed}
-use Rattle.store.proofs.SlotLaws.{length-free}
+use Rattle.store_slots.proofs.SlotLaws.{length-free}
 use Rattle.store.proofs.MovingLaws.{freed-next, freed-end}
 use Rattle.store.proofs.moving.free_from.Statement.{statement}
 use Rattle.store.proofs.moving.free_from.Tie as tie

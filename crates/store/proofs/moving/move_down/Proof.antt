@@ -6,7 +6,7 @@ use mathlib.Core.Path.{sym, ap, _∙_}
 use lib.ListN.{length}
 use lib.Seq.{sets, take-all}
 use Rattle.record.specs.Layout.{spotWidth}
-use Rattle.store.proofs.SlotLaws.{slot-is, slot-long}
+use Rattle.store_slots.proofs.SlotLaws.{slot-is, slot-long}
 use Rattle.store.proofs.MovingLaws.{moved-free, moved-live}
 use Rattle.store.proofs.moving.move_down.Statement.{statement}
 use Rattle.store.proofs.moving.move_down.Tie as tie

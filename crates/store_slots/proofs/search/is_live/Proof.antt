@@ -5,10 +5,10 @@ use native.Mathlib.Omega.{arith}
 use mathlib.Core.Path.{ap, _∙_}
 use mathlib.Core.Bool.{not}
 use Rattle.record.specs.Layout.{spotWidth}
-use Rattle.store.specs.Slots.{isFree, freeBytes}
-use Rattle.store.proofs.SlotLaws.{part-slot, past-free, slot-is}
-use Rattle.store.proofs.search.is_live.Statement.{statement}
-use Rattle.store.proofs.search.is_live.Tie as tie
+use Rattle.store_slots.specs.Slots.{isFree, freeBytes}
+use Rattle.store_slots.proofs.SlotLaws.{part-slot, past-free, slot-is}
+use Rattle.store_slots.proofs.search.is_live.Statement.{statement}
+use Rattle.store_slots.proofs.search.is_live.Tie as tie
 
 returns : tie.Need-returns
 returns c = let a = c .before .before .args in rw (past-free (a .b .now) (a .i) (omega (arith, c .if1 .taken)))

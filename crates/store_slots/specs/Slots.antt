@@ -1,10 +1,11 @@
 -- A buffer as slots of one record's bytes each, the free slot, and a search. Definitions only.
 use Prim.Native.Nat.{ℕ, zero, suc, _/_}
-use mathlib.Core.Bool.{Bool, true, false, cond, _&&_}
+use mathlib.Core.Bool.{Bool, true, false, not, cond, _&&_, _||_}
 use mathlib.Core.List.{List, [], _∷_, _++_}
 use lib.Dec.{eqb}
 use lib.ListN.{length, take, drop, set, replicate}
-use Rattle.record.specs.Layout.{spotWidth}
+use Rattle.record.specs.Layout.{spotWidth, recordFrom}
+use Rattle.record.specs.Readable.{readable}
 
 -- where a record's polarity byte stands
 abbrev pub mark : ℕ
@@ -24,6 +25,10 @@ same (x ∷ xs) (y ∷ ys) = eqb x y && same xs ys
 -- a slot is free
 unfoldable pub isFree : List ℕ → Bool
 isFree s = same s freeBytes
+
+-- a slot is bad: it is not free, and its record is not readable
+unfoldable pub badSlot : ℕ → ℕ → List ℕ → Bool
+badSlot rows cols s = not (isFree s || readable rows cols (recordFrom s 0))
 
 -- the first n slots of a buffer
 unfoldable pub slotsFrom : ℕ → List ℕ → List (List ℕ)

@@ -1,9 +1,9 @@
 -- `slot::free_bytes` meets its contract.
 use mathlib.Core.Path.{refl}
-use Rattle.store.specs.Slots.{freeBytes}
+use Rattle.store_slots.specs.Slots.{freeBytes}
 use borrow.Author.Needs.{needs}
-use Rattle.store.proofs.slot.free_bytes.Statement.{statement}
-use Rattle.store.proofs.slot.free_bytes.Tie as tie
+use Rattle.store_slots.proofs.slot.free_bytes.Statement.{statement}
+use Rattle.store_slots.proofs.slot.free_bytes.Tie as tie
 
 array-write-bytes : tie.Need-array-write-bytes
 array-write-bytes c = search needs

@@ -3,8 +3,7 @@ ghost use mathlib.Core.Path.{_≡_};
 ghost use Prim.Native.Nat.{_+_, _≤_};
 ghost use lib.ListN.{length, take, drop};
 ghost use Rattle.record.specs.Layout.{spotWidth};
-ghost use Rattle.store.specs.Slots.{freeBytes, isFree};
-ghost use Rattle.store.specs.Store.{badSlot};
+ghost use Rattle.store_slots.specs.Slots.{freeBytes, isFree, badSlot};
 use record::SPOT_WIDTH;
 
 const MARK: usize = 38;

@@ -3,8 +3,7 @@ ghost use mathlib.Core.Path.{_≡_};
 ghost use mathlib.Core.Bool.{not};
 ghost use Prim.Native.Nat.{_≤_};
 ghost use lib.ListN.{getD};
-ghost use Rattle.store.specs.Slots.{freeBytes, isFree, slotsOf, firstWhere};
-ghost use Rattle.store.specs.Store.{badSlot};
+ghost use Rattle.store_slots.specs.Slots.{freeBytes, isFree, slotsOf, firstWhere, badSlot};
 use crate::slot;
 use record::SPOT_WIDTH;
 

@@ -1,8 +1,8 @@
 -- `slot::is_bad` meets its contract.
 use borrow.Author.Needs.{needs}
-use Rattle.store.specs.Store.{badSlot}
-use Rattle.store.proofs.slot.is_bad.Statement.{statement}
-use Rattle.store.proofs.slot.is_bad.Tie as tie
+use Rattle.store_slots.specs.Slots.{badSlot}
+use Rattle.store_slots.proofs.slot.is_bad.Statement.{statement}
+use Rattle.store_slots.proofs.slot.is_bad.Tie as tie
 
 is-free-requires : tie.Need-is-free-requires
 is-free-requires c κs = search needs

@@ -13,7 +13,7 @@ use Rattle.float.proofs.Bools.{both}
 use Rattle.record.specs.Layout.{spotWidth, recordWith, recordFrom}
 use Rattle.record.specs.Readable.{readable}
 use Rattle.record.proofs.ReadableLaws.{readable-parts}
-use Rattle.store.specs.Slots.{mark, freeBytes, same, isFree, slotsFrom, slotsOf, flat}
+use Rattle.store_slots.specs.Slots.{mark, freeBytes, same, isFree, slotsFrom, slotsOf, flat}
 
 -- ---- the free slot
 

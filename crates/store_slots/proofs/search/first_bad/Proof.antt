@@ -9,11 +9,11 @@ use lib.Dec.{ltb, eqb}
 use lib.ListN.{length}
 use Rattle.float.proofs.Bools.{both}
 use Rattle.record.specs.Layout.{spotWidth}
-use Rattle.store.specs.Store.{badSlot}
-use Rattle.store.proofs.SlotLaws.{part-slot, part-length}
-use Rattle.store.proofs.SearchLaws.{Searched, searched-start, searched-here, searched-next, searched-end, loop-over}
-use Rattle.store.proofs.search.first_bad.Statement.{statement}
-use Rattle.store.proofs.search.first_bad.Tie as tie
+use Rattle.store_slots.specs.Slots.{badSlot}
+use Rattle.store_slots.proofs.SlotLaws.{part-slot, part-length}
+use Rattle.store_slots.proofs.SearchLaws.{Searched, searched-start, searched-here, searched-next, searched-end, loop-over}
+use Rattle.store_slots.proofs.search.first_bad.Statement.{statement}
+use Rattle.store_slots.proofs.search.first_bad.Tie as tie
 
 abbrev Inv-loop : tie.InvT-loop
 Inv-loop rows cols b count bad₀ i₀ bad i = (i ≤ length b / spotWidth) × Searched (badSlot rows cols) b i bad

@@ -7,7 +7,7 @@ use mathlib.Core.List.{List}
 use lib.ListN.{length, getD, drop, drop-of-length-le}
 use lib.Seq.{drop-cons}
 use borrow.Author.Tests.{eq-eqb, ne-eqb}
-use Rattle.store.specs.Slots.{same}
+use Rattle.store_slots.specs.Slots.{same}
 
 module _ (l m : List ℕ) (k : ℕ) (passed : same l m ≡ same (drop k l) (drop k m)) where
   pub same-next : k < length l → k < length m → getD l k 0 ≡ getD m k 0 → same l m ≡ same (drop (k + 1) l) (drop (k + 1) m)

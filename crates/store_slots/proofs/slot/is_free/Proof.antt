@@ -5,11 +5,11 @@ use native.Mathlib.Omega.{arith}
 use mathlib.Core.Path.{_≡_, refl, sym, ap}
 use lib.ListN.{length, drop}
 use Rattle.record.specs.Layout.{spotWidth}
-use Rattle.store.specs.Slots.{freeBytes, same, isFree}
-use Rattle.store.proofs.SlotLaws.{length-free}
-use Rattle.store.proofs.ByteLaws.{same-next, same-fails, same-ends}
-use Rattle.store.proofs.slot.is_free.Statement.{statement}
-use Rattle.store.proofs.slot.is_free.Tie as tie
+use Rattle.store_slots.specs.Slots.{freeBytes, same, isFree}
+use Rattle.store_slots.proofs.SlotLaws.{length-free}
+use Rattle.store_slots.proofs.ByteLaws.{same-next, same-fails, same-ends}
+use Rattle.store_slots.proofs.slot.is_free.Statement.{statement}
+use Rattle.store_slots.proofs.slot.is_free.Tie as tie
 
 abbrev Inv-loop : tie.InvT-loop
 Inv-loop s free k₀ k = (k ≤ spotWidth) × ((free ≡ freeBytes) × (same s free ≡ same (drop k s) (drop k free)))

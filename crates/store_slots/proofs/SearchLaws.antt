@@ -11,8 +11,8 @@ use lib.ListN.{length, getD, take, drop, drop-of-length-le}
 use lib.Seq.{drop-cons}
 use borrow.Author.Tests.{ltb-true, ltb-false, eq-eqb}
 use Rattle.record.specs.Layout.{spotWidth}
-use Rattle.store.specs.Slots.{slotsOf, firstWhere}
-use Rattle.store.proofs.SlotLaws.{count-of, slot-at}
+use Rattle.store_slots.specs.Slots.{slotsOf, firstWhere}
+use Rattle.store_slots.proofs.SlotLaws.{count-of, slot-at}
 
 module _ (test : List ℕ → Bool) where
   -- ---- what it finds

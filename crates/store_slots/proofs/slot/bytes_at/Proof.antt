@@ -6,8 +6,8 @@ use lib.ListN.{length, take, drop, length-set}
 use lib.Seq.{take-all}
 use Rattle.record.specs.Layout.{spotWidth}
 use Rattle.words.proofs.Parts.{filled-part}
-use Rattle.store.proofs.slot.bytes_at.Statement.{statement}
-use Rattle.store.proofs.slot.bytes_at.Tie as tie
+use Rattle.store_slots.proofs.slot.bytes_at.Statement.{statement}
+use Rattle.store_slots.proofs.slot.bytes_at.Tie as tie
 
 abbrev Inv-loop : tie.InvT-loop
 Inv-loop b at s₀ k₀ s k = (k ≤ spotWidth) × ((length s ≡ spotWidth) × (take k s ≡ take k (drop at b)))

@@ -1,0 +1,2 @@
+-- The slots of a store.
+pub mod Slots
