@@ -12,10 +12,10 @@ use Rattle.tables.specs.Refusal.{firstOf, unless}
 use Rattle.record.specs.Layout.{spotWidth, recordFrom}
 use Rattle.record.specs.Readable.{readable}
 use Rattle.store_slots.specs.Slots.{freeBytes, isFree, slotsOf, firstWhere, badSlot}
-use Rattle.store.specs.Store.{Call, Clear, Add, Strike, CloseUp, goodNew, callChecks, liveSlots, closedUp, answerOf, slotsAfter, callOf}
+use Rattle.store.specs.Store.{Call, Clear, Add, Strike, CloseUp, goodNew, callChecks, liveSlots, closedUp, answerOf, slotsAfter, Outcome, callOf}
 use Rattle.store.specs.declared.Stored.{Stored}
 use Rattle.store_slots.proofs.SlotLaws.{free-is-free, readable-not-free, count-of, slotsOf-flat}
-use Rattle.store.proofs.StoreLaws.{add-passed, sized-after, call-done, call-refused, length-kept}
+use Rattle.store.proofs.StoreLaws.{add-passed, whole-passed, sized-after, call-done, call-refused, length-kept}
 use Rattle.day.specs.Model.{result, isNone, lowest, live, firstBad, listChecks, doneList, endedList, callList}
 use Rattle.day.specs.Runs.{bufferAfter, answersOf, listAfter, listAnswers, spotOf, spotsBy, recordIn, spotsOf, bytesIn}
 
@@ -187,3 +187,19 @@ unfolding listAfter callList listChecks firstOf endedList doneList
 cleared-spots cs b h =
     sym (records-after (Clear ∷ cs) b h)
     ∙ ap (λ (n : ℕ). listAfter readable recordIn cs (replicate n none)) (count-same readable recordIn (λ rows cols s. refl) b h)
+
+-- ---- bytes that are no whole slots
+
+-- each call is refused, and leaves them
+pub broken-kept : (c : Call) (b : List ℕ) → (length b % spotWidth ≡ 0 → ⊥) → callOf c b .buffer ≡ b
+broken-kept c b broken = go (firstOf (callChecks c b)) refl
+  where
+    go : (w : Checked) → firstOf (callChecks c b) ≡ w → callOf c b .buffer ≡ b
+    go (Bad r) e = ap (λ (o : Outcome). o .buffer) (call-refused c b r e)
+    go Fine e = absurd (broken (whole-passed c b e))
+
+-- and so does any sequence
+pub broken-after : (cs : List Call) (b : List ℕ) → (length b % spotWidth ≡ 0 → ⊥) → bufferAfter cs b ≡ b
+unfolding bufferAfter
+broken-after [] b broken = refl
+broken-after (c ∷ cs) b broken = rw (broken-kept c b broken) (broken-after cs b broken)
