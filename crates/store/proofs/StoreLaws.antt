@@ -1,10 +1,10 @@
--- What a call's definition settles: the first refusal that applies, by its place; that a refusal changes nothing; what a call that is done had; one answer and one
--- buffer, of the same length. Assumes nothing.
+-- What a call's definition settles: the first refusal that applies, by its place; that a refusal changes nothing; what a call that is done had; that the buffer
+-- keeps its length. Assumes nothing.
 use Prim.Native.Nat.{ℕ, _-_, _/_, _%_, _≤_, _<_}
 use native.Mathlib.Nat.{le-trans}
 use native.Mathlib.Omega.{arith}
 use mathlib.Core.Bool.{Bool, true, false, cond, false≢true}
-use mathlib.Core.Path.{_≡_, refl, sym, ap, _∙_}
+use mathlib.Core.Path.{_≡_, refl, ap}
 use mathlib.Core.List.{List, [], _∷_, _++_}
 use lib.Dec.{eqb}
 use lib.ListN.{length, getD, replicate, length-append, length-set, length-replicate}
@@ -17,7 +17,6 @@ use Rattle.tables.specs.Refusal.{Check, firstOf, First, sidesCheck}
 use Rattle.tables.proofs.RefusalLaws as laws
 use Rattle.record.specs.Layout.{spotWidth, recordFrom}
 use Rattle.record.specs.Readable.{readable}
-use Rattle.store.specs.declared.Stored.{Stored}
 use Rattle.store.specs.declared.Stored.the-variants.{Refused}
 use Rattle.store_slots.specs.Slots.{freeBytes, isFree, slotsOf, flat, firstWhere, badSlot}
 use Rattle.store.specs.Store.{Call, Clear, Add, Strike, CloseUp, goodNew, wholeCheck, slotsCheck, newCheck, roomCheck, spotCheck, callChecks, liveSlots, closedUp, answerOf, slotsAfter, Outcome, outcome, finished, callOf}
@@ -213,7 +212,3 @@ module _ (c : Call) (b : List ℕ) where
       go Fine e =
           rw (call-done e)
           (omega (arith, length-flat (slotsAfter c (slotsOf b)) (sized-after c b e), count-after c (slotsOf b), count-of b, whole-passed c b e))
-
-  -- two answers that a call's promise allows are equal, with their buffers
-  pub call-only : (r r' : Stored) (o o' : List ℕ) → outcome r o ≡ callOf c b → outcome r' o' ≡ callOf c b → (r ≡ r') × (o ≡ o')
-  call-only r r' o o' p q = (ap (λ (x : Outcome). x .answer) (p ∙ sym q), ap (λ (x : Outcome). x .buffer) (p ∙ sym q))

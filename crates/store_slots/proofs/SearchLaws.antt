@@ -9,22 +9,13 @@ use mathlib.Core.List.{List, [], _∷_}
 use lib.Dec.{ltb, eqb}
 use lib.ListN.{length, getD, take, drop, drop-of-length-le}
 use lib.Seq.{drop-cons}
-use borrow.Author.Tests.{ltb-true, ltb-false, eq-eqb}
+use borrow.Author.Tests.{ltb-false, eq-eqb}
 use Rattle.record.specs.Layout.{spotWidth}
 use Rattle.store_slots.specs.Slots.{slotsOf, firstWhere}
 use Rattle.store_slots.proofs.SlotLaws.{count-of, slot-at}
 
 module _ (test : List ℕ → Bool) where
   -- ---- what it finds
-
-  pub where-most : (ss : List (List ℕ)) → firstWhere test ss ≤ length ss
-  unfolding firstWhere
-  where-most [] = omega arith
-  where-most (s ∷ ss) = go (test s) (where-most ss)
-    where
-      go : (t : Bool) → firstWhere test ss ≤ length ss → cond t 0 (suc (firstWhere test ss)) ≤ suc (length ss)
-      go true h = omega arith
-      go false h = omega arith
 
   -- the test holds of the slot found, where it is one of them
   pub where-holds : (ss : List (List ℕ)) (d : List ℕ) → firstWhere test ss < length ss → test (getD ss (firstWhere test ss) d) ≡ true
@@ -61,14 +52,6 @@ module _ (test : List ℕ → Bool) where
   unfolding firstWhere
   where-none [] d h = refl
   where-none (s ∷ ss) d h = rw (h 0 (omega arith)) (ap suc (where-none ss d (λ k less. h (suc k) (omega arith))))
-
-  -- a slot that the test holds of is at or behind the one found
-  pub where-low : (ss : List (List ℕ)) (d : List ℕ) (i : ℕ) → test (getD ss i d) ≡ true → firstWhere test ss ≤ i
-  where-low ss d i e = go (ltb i (firstWhere test ss)) refl
-    where
-      go : (t : Bool) → ltb i (firstWhere test ss) ≡ t → firstWhere test ss ≤ i
-      go false t = ltb-false _ _ t
-      go true t = absurd (false≢true (sym (where-first ss d i (ltb-true _ _ t)) ∙ e))
 
   -- ---- turn by turn
 

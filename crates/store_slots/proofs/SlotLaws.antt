@@ -94,12 +94,6 @@ unfolding Sized
 sized-append [] tt p q = q
 sized-append (s ∷ ss) tt p q = (p .0, sized-append ss tt (p .1) q)
 
-pub sized-take : (i : ℕ) (ss : List (List ℕ)) → Sized ss → Sized (take i ss)
-unfolding Sized
-sized-take zero ss p = tt
-sized-take (suc i) [] p = tt
-sized-take (suc i) (s ∷ ss) p = (p .0, sized-take i ss (p .1))
-
 pub sized-frees : (n : ℕ) → Sized (replicate n freeBytes)
 unfolding Sized
 sized-frees zero = tt
