@@ -1,4 +1,5 @@
 // The C face of the detector: thin, each function one call.
+#![tactic(auto)]
 mod accepting; // accepting.rt: a partner's list
 mod desking; // desking.rt: the table that two desks share
 mod feeding; // feeding.rt: the feed of columns

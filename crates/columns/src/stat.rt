@@ -5,7 +5,7 @@ ghost use Rattle.columns.specs.Stat.{point_of, height_of, Points};
 use crate::coef::{beyond, pick};
 
 // A stationary point, and the value there with the polarity's sign.
-#[derive(Drop)]
+#[derive(Clone, Copy)]
 pub struct Peak {
     pub p: f32,
     pub v: f32,

@@ -1,4 +1,5 @@
 // Two desks, one lent table of sets: a desk claims a free slot, writes its own, and gives it back.
+#![tactic(auto)]
 mod checks; // checks.rt: each call's checks, in their order
 mod storing; // storing.rt: what is stored
 pub mod table; // table.rt: the table's parts, read
@@ -9,7 +10,7 @@ ghost use Rattle.desks.specs.Desks.{outcome, call_of, Claim, Write, Release};
 use tables::{Checked, Refusal};
 
 // What a call of a desk answers: done, or why it was refused.
-#[derive(Drop)]
+#[derive(Clone, Copy)]
 pub enum Told {
     Done,
     Refused(Refusal),

@@ -1,4 +1,5 @@
 // Detection: the spots of four levels.
+#![tactic(auto)]
 mod candidates; // candidates.rt: the loops over the pixels
 
 ghost use Rattle.std.specs.Prelude.{◌≡◌};
@@ -8,7 +9,7 @@ use pixel::Frame;
 use tables::{Checked, Refusal, Set, Thresholds};
 
 // What detection answers: how many spots it found, or why it refused.
-#[derive(Drop)]
+#[derive(Clone, Copy)]
 pub enum Answer {
     Found(usize),
     Refused(Refusal),

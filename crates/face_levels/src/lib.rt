@@ -1,4 +1,5 @@
 // The levels' face: its answer as a number.
+#![tactic(auto)]
 ghost use Rattle.std.specs.Prelude.{◌≡◌};
 ghost use Rattle.face_levels.specs.Face.{levels_left, levels_face};
 

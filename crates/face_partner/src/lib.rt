@@ -1,4 +1,5 @@
 // The face of the reader of a partner's list: its answer as numbers.
+#![tactic(auto)]
 ghost use Rattle.std.specs.Prelude.{◌≡◌};
 ghost use Rattle.face_partner.specs.Face.{told, found_told, reply_told, accept_face};
 
@@ -7,7 +8,7 @@ use partner::Reply;
 use tables::Thresholds;
 
 // A call's number, what was found, and the value beside it.
-#[derive(Drop)]
+#[derive(Clone, Copy)]
 pub struct Told {
     pub number: u32,
     pub finding: u32,

@@ -1,4 +1,5 @@
 // A feed of columns: a map is given four columns at a time, and each column is judged when two more have come.
+#![tactic(auto)]
 ghost use Rattle.std.specs.Prelude.{◌≡◌, cond, ◌≤◌, ◌<◌, length};
 ghost use Rattle.tables.specs.declared.Refusal.TheVariants.{Room};
 ghost use Rattle.tables.specs.Refusal.{first_of};
@@ -11,21 +12,21 @@ use ring::State;
 use tables::{Checked, Refusal, Set, Thresholds};
 
 // What start answers: where it refuses, the state beside it takes no column.
-#[derive(Drop)]
+#[derive(Clone, Copy)]
 pub struct Started {
     pub answer: Checked,
     pub state: State,
 }
 
 // What a column is answered: how many records were listed, or why it was not taken.
-#[derive(Drop)]
+#[derive(Clone, Copy)]
 pub enum Answer {
     Taken(usize),
     Refused(Refusal),
 }
 
 // The answer, and the state for the next call.
-#[derive(Drop)]
+#[derive(Clone, Copy)]
 pub struct Fed {
     pub answer: Answer,
     pub state: State,

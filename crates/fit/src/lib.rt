@@ -1,12 +1,13 @@
 // One pixel's numbers: its cubics, its envelope, a cubic's extreme over a band. Each function follows the published Rust's operations
 // one by one, each rounded once; the definitions are in specs/.
+#![tactic(auto)]
 mod points;
 pub mod reference;
 pub mod scale_fit;
 pub mod stream;
 
 // The least and the largest response of a pixel over the sigmas, and the sigma of each: 0 where it is an end sample's.
-#[derive(Drop)]
+#[derive(Clone, Copy)]
 pub struct Envelope {
     pub emin: f32,
     pub emax: f32,
@@ -15,14 +16,14 @@ pub struct Envelope {
 }
 
 // The scales in which a candidate competes with its neighbours.
-#[derive(Drop)]
+#[derive(Clone, Copy)]
 pub struct Band {
     pub low: f32,
     pub high: f32,
 }
 
 // Where a cubic has a stationary point of the polarity asked for.
-#[derive(Drop)]
+#[derive(Clone, Copy)]
 pub enum Stationary {
     At(f32),
     Nowhere,

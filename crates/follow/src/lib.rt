@@ -1,4 +1,5 @@
 // A given list beside the records that are due, one after the other.
+#![tactic(auto)]
 ghost use Rattle.std.specs.Prelude.{◌≡◌, ◌+◌, ◌≤◌, length, take, drop};
 ghost use Rattle.alike.specs.Same.{same};
 ghost use Rattle.record.specs.Layout.{spot_width, record_bytes};
@@ -7,7 +8,7 @@ ghost use Rattle.follow.specs.Follow.{earlier, meet_of, step_of, is_going, end_o
 use record::{Record, SPOT_WIDTH};
 
 // What is found of a list: that it is the one that is due, or the index of the first record that differs, and how.
-#[derive(Drop)]
+#[derive(Clone, Copy)]
 pub enum Finding {
     Yes,
     Extra(usize),
@@ -16,7 +17,7 @@ pub enum Finding {
 }
 
 // How far a list was followed: so many of its records are those due, or the first difference was found.
-#[derive(Drop)]
+#[derive(Clone, Copy)]
 pub enum Walk {
     Going(usize),
     Ended(Finding),

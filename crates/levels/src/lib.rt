@@ -1,4 +1,5 @@
 // The four levels of a raw map.
+#![tactic(auto)]
 mod checks; // checks.rt: the checks, in their order
 
 ghost use Rattle.std.specs.Prelude.{◌≡◌, ◌+◌, ◌<◌, length};
@@ -9,7 +10,7 @@ use kernels::gauss::octave_kernel;
 use tables::{Checked, Refusal, Set};
 
 // What levels answers: made, or why it refused.
-#[derive(Drop)]
+#[derive(Clone, Copy)]
 pub enum Blurred {
     Made,
     Refused(Refusal),

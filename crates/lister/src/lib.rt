@@ -1,4 +1,5 @@
 // The list program's work on bytes: from its input to its output.
+#![tactic(auto)]
 ghost use Rattle.std.specs.Prelude.{◌≡◌, min};
 ghost use Rattle.io.specs.Counts.{IsPrefixLen};
 ghost use Rattle.tables.specs.declared.Checked.TheVariants.{Fine};

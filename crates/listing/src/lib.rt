@@ -1,4 +1,5 @@
 // What a pixel lists, laid into a buffer.
+#![tactic(auto)]
 ghost use Rattle.std.specs.Prelude.{◌+◌, ◌≤◌, ◌<◌, ◌^◌};
 ghost use Rattle.record.specs.Layout.{Laid};
 ghost use Rattle.pixel.specs.Listed.{listed, both_listed};

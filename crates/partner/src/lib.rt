@@ -1,4 +1,5 @@
 // Accepting a partner's list: whether it is the one that is due for the same levels, set, thresholds and octave, and where it first differs.
+#![tactic(auto)]
 mod check; // check.rt: the refusals
 mod pixels; // pixels.rt: the loops over the pixels
 
@@ -10,7 +11,7 @@ use pixel::Frame;
 use tables::{Checked, Refusal, Set, Thresholds};
 
 // What the reader answers: what it found, or why it refused.
-#[derive(Drop)]
+#[derive(Clone, Copy)]
 pub enum Reply {
     Found(Finding),
     Refused(Refusal),

@@ -1,4 +1,5 @@
 // The judgement of one pixel: from the samples at its nine places to the record it lists, if any. It knows nothing of maps.
+#![tactic(auto)]
 pub mod gate;
 pub mod judge;
 pub mod ring;
@@ -6,7 +7,7 @@ pub mod ring;
 use record::Record;
 
 // The size of a map, and the octave that its records carry.
-#[derive(Drop)]
+#[derive(Clone, Copy)]
 pub struct Frame {
     pub rows: usize,
     pub cols: usize,
@@ -14,14 +15,14 @@ pub struct Frame {
 }
 
 // What a pixel lists at one polarity.
-#[derive(Drop)]
+#[derive(Clone, Copy)]
 pub enum Verdict {
     Listed(Record),
     Nothing,
 }
 
 // What a pixel lists at both polarities: the minimum and the maximum.
-#[derive(Drop)]
+#[derive(Clone, Copy)]
 pub struct Listing {
     pub low: Verdict,
     pub high: Verdict,

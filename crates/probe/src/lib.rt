@@ -1,5 +1,6 @@
 // The inner functions for the tests alone, to be compared with the published Rust one by one: offered to nobody else.
 // Each takes plain numbers and the record of a set, and answers one number: the i-th where the result has several, NaN past the end.
+#![tactic(auto)]
 ghost use Rattle.std.specs.Prelude.{◌≡◌, [], ◌∷◌};
 ghost use Rattle.float.specs.Sqrt.{sqrt_of};
 ghost use Rattle.fit.specs.Cubic.{horner_of};

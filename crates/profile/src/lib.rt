@@ -1,5 +1,6 @@
 // The profile statistic of four samples: how far the points that they give lie from a rising line, or why there is none.
 // Each function follows the published Rust's operations one by one, each rounded once; the definitions are in specs/.
+#![tactic(auto)]
 ghost use Rattle.std.specs.Prelude.{◌≡◌};
 ghost use Rattle.profile.specs.Four.{energy_of};
 ghost use Rattle.profile.specs.Profile.{residual_of, usable_samples, usable_roots, usable_line, usable_energy, ratio_of, fitted_of, scaled_of, statistic_of};
@@ -12,7 +13,7 @@ use crate::four::{
 mod four;
 
 // Why there is no statistic: the first of its tests, in this order, that the samples fail.
-#[derive(Drop)]
+#[derive(Clone, Copy)]
 pub enum Absence {
     Samples,
     Quotients,
@@ -21,7 +22,7 @@ pub enum Absence {
 }
 
 // The profile statistic: a number, or why there is none.
-#[derive(Drop)]
+#[derive(Clone, Copy)]
 pub enum Statistic {
     Value(f32),
     Absent(Absence),

@@ -1,4 +1,5 @@
 // The pyramid's helpers: how many octaves a map has, and the level that the next octave starts from.
+#![tactic(auto)]
 mod octaves; // octaves.rt: the octaves of a shortest side
 mod halve; // halve.rt: every second pixel of every second column, and the refusals
 
@@ -8,7 +9,7 @@ ghost use Rattle.pyramid.specs.Pyramid.{octave_count_of, outcome, downsample_of}
 use tables::{Checked, Refusal};
 
 // What halving a level answers: the new rows and cols, or why it refused.
-#[derive(Drop)]
+#[derive(Clone, Copy)]
 pub enum Halved {
     Sides(usize, usize),
     Refused(Refusal),

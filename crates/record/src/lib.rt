@@ -1,4 +1,5 @@
 // A spot's record: its values, its bytes, and when a record is readable. The layout stands here and nowhere else.
+#![tactic(auto)]
 ghost use Rattle.std.specs.Prelude.{◌≡◌, ◌+◌, ◌<◌, ◌≤◌, ◌^◌, length};
 ghost use Rattle.std.proofs.lemmas.List.Edits.{sets};
 ghost use Rattle.record.specs.Layout.{spot_width, old_width, floats4, old_bytes, record_bytes, put, record_with, record_from, old_from};
@@ -10,7 +11,7 @@ pub const SPOT_WIDTH: usize = 48;
 // How many it had before displacements were kept.
 pub const OLD_WIDTH: usize = 40;
 
-#[derive(Drop)]
+#[derive(Clone, Copy)]
 pub struct Record {
     pub x: f32,
     pub y: f32,

@@ -7,7 +7,7 @@ use crate::{Refined, Spot};
 use tables::Set;
 
 // The spot that the refinement leaves, and whether it accepted.
-#[derive(Drop)]
+#[derive(Clone, Copy)]
 pub struct Settled {
     pub spot: Spot,
     pub ok: bool,

@@ -1,4 +1,5 @@
 // The ring of a feed: its state, what is read of the ring and of the columns that are given, and how a column is stored.
+#![tactic(auto)]
 ghost use Rattle.std.specs.Prelude.{◌≡◌, cond, ◌+◌, ◌-◌, ◌*◌, ◌≤◌, ◌<◌, length};
 ghost use Rattle.std.proofs.lemmas.List.Edits.{sets};
 ghost use Rattle.samples.specs.Level.{nine_of};
@@ -9,7 +10,7 @@ ghost use Rattle.ring.specs.Lent.{Lent};
 use tables::{Set, Thresholds};
 
 // What a feed goes by, and how many columns it has taken. Start makes it, and each column answers the next.
-#[derive(Drop)]
+#[derive(Clone, Copy)]
 pub struct State {
     pub set: Set,
     pub thresholds: Thresholds,

@@ -6,7 +6,7 @@ ghost use Rattle.grid.specs.Grid.{pixel_at};
 ghost use Rattle.samples.specs.Level.{sample_at};
 
 // A level's pixels, by columns, and how many rows it has.
-#[derive(Drop)]
+#[derive(Clone, Copy)]
 pub struct LevelView<'a> {
     pixels: &'a [f32],
     rows: usize,

@@ -1,4 +1,5 @@
 // Whole scenes: cut into tiles, each copied, detected and joined as a map of its own.
+#![tactic(auto)]
 mod run; // run.rt: the tiles one after the other
 
 ghost use Rattle.std.specs.Prelude.{◌≡◌};
@@ -8,7 +9,7 @@ ghost use Rattle.scene.specs.Scene.{after, scene_of};
 use tables::{Checked, Refusal, Set, Thresholds};
 
 // What a scene answers: how many records it lists; that the output is full, with the number of whole tiles written; or why it refused.
-#[derive(Drop)]
+#[derive(Clone, Copy)]
 pub enum Answer {
     Found(usize),
     Full(usize),

@@ -1,5 +1,6 @@
 // The correction of a spot's sigma: from its four samples, the sigma that its fit gave and its polarity, a corrected sigma or why there is none.
 // Each function follows the published Rust's operations one by one, each rounded once; the definitions are in specs/.
+#![tactic(auto)]
 ghost use Rattle.std.specs.Prelude.{◌≡◌};
 ghost use Rattle.size.specs.Correct.{correct_of};
 
@@ -8,14 +9,14 @@ use tables::{Missing, Refusal, Set};
 pub mod anchor;
 
 // What the inner correction answers: a corrected sigma, or why there is none.
-#[derive(Drop)]
+#[derive(Clone, Copy)]
 pub enum Corrected {
     Sigma(f32),
     NoSize(Missing),
 }
 
 // What the correction answers.
-#[derive(Drop)]
+#[derive(Clone, Copy)]
 pub enum Correction {
     Size(f32),
     Refused(Refusal),
@@ -23,7 +24,7 @@ pub enum Correction {
 
 // The set's geometry numbers by name: log sigma origin, curvature epsilon, fit T min and max, accepted sigma min and max, blend beta and boost,
 // compatibility lower and upper, move cap.
-#[derive(Drop)]
+#[derive(Clone, Copy)]
 pub struct Geometry {
     pub origin: f32,
     pub epsilon: f32,

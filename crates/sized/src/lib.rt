@@ -1,4 +1,5 @@
 // A spot's size and home pixel, and its sized record: its own bytes, then these.
+#![tactic(auto)]
 ghost use Rattle.std.specs.Prelude.{◌≡◌, ◌+◌, ◌<◌, ◌≤◌, ◌^◌, length};
 ghost use Rattle.std.proofs.lemmas.List.Edits.{sets};
 ghost use Rattle.sized.specs.Sized.{sized_width, old_sized_width, given_sigma, accepted_of, missing_of, tail_bytes, home_of, size_of, sized_bytes, old_sized_bytes, Placed};
@@ -14,7 +15,7 @@ pub const SIZED_WIDTH: usize = 60;
 pub const OLD_SIZED_WIDTH: usize = 52;
 
 // A pixel by its row and col.
-#[derive(Drop)]
+#[derive(Clone, Copy)]
 pub struct Home {
     pub row: usize,
     pub col: usize,

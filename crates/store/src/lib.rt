@@ -1,4 +1,5 @@
 // A day's spots in a lent buffer: slots of one record each, free ones marked. Clear, add, strike, close up.
+#![tactic(auto)]
 mod checks; // checks.rt: each call's checks, in its order
 mod moving; // moving.rt: slots freed from a place on, live ones moved down
 
@@ -11,7 +12,7 @@ use tables::{Checked, Refusal};
 use words::put_first;
 
 // What a call answers: done; the slot that was taken; the number of live records; or why it was refused.
-#[derive(Drop)]
+#[derive(Clone, Copy)]
 pub enum Stored {
     Done,
     At(usize),

@@ -1,4 +1,5 @@
 // The set of tables and the thresholds, by value; when a set is good, and whether a threshold is no number; a set's reader from a record of 528 bytes.
+#![tactic(auto)]
 ghost use Rattle.std.specs.Prelude.{◌≡◌};
 ghost use Rattle.tables.specs.Set.{good};
 ghost use Rattle.tables.specs.Refusal.{any_nan, read_set_of};
@@ -13,7 +14,7 @@ pub use reader::set_of;
 // Tables and numbers that decide what a spot is. `scale` and `geometry` have rows a, b, c, d of three entries each; `spatial` has rows w1 to w5 of
 // nine entries each for scale index 1, then for 2; `numbers` are log sigma origin, curvature epsilon, fit T min, T max, accepted sigma min, max,
 // blend beta, boost, compatibility lower, upper, move cap.
-#[derive(Drop)]
+#[derive(Clone, Copy)]
 pub struct Set {
     pub sigmas: [f32; 4],
     pub scale: [f32; 12],
@@ -24,7 +25,7 @@ pub struct Set {
 }
 
 // What a spot must pass: an entry refuses a NaN among them; infinities and a window from high to low are allowed.
-#[derive(Drop)]
+#[derive(Clone, Copy)]
 pub struct Thresholds {
     pub peak: f32,
     pub sigma: f32,
@@ -34,14 +35,14 @@ pub struct Thresholds {
 }
 
 // Why a spot has no size: at its place the curve is not one of its polarity or not finite, or its step leads out of the fitted range.
-#[derive(Drop)]
+#[derive(Clone, Copy)]
 pub enum Missing {
     Polarity,
     Range,
 }
 
 // Why a call was refused; specs/Refusal.antt gives each its number.
-#[derive(Drop)]
+#[derive(Clone, Copy)]
 pub enum Refusal {
     Size,
     Level,
@@ -59,14 +60,14 @@ pub enum Refusal {
 }
 
 // The outcome of a check.
-#[derive(Drop)]
+#[derive(Clone, Copy)]
 pub enum Checked {
     Fine,
     Bad(Refusal),
 }
 
 // What the reader of a set answers: where the record is refused, the set is all zeros.
-#[derive(Drop)]
+#[derive(Clone, Copy)]
 pub struct SetRead {
     pub answer: Checked,
     pub set: Set,

@@ -1,4 +1,5 @@
 // One tile of a scene: what it lists goes, sized and with the tile's numbers, after the records of the tiles before it.
+#![tactic(auto)]
 mod list; // list.rt: the tile's spot list
 mod place; // place.rt: its records, sized and numbered
 
@@ -14,7 +15,7 @@ pub const NUMBERED_WIDTH: usize = 64;
 const MORE: usize = 16;
 
 // What a tile answers: how many records are now written, its own counted; or that they have no room.
-#[derive(Drop)]
+#[derive(Clone, Copy)]
 pub enum Filled {
     WholeTile(usize),
     Full,

@@ -1,0 +1,47 @@
+-- `along::along` meets its contract. The loop's invariant: the pass by the taps up to t is stored.
+use native.Mathlib.Omega.{arith}
+use mathlib.Core.Path.{◌≡◌, ◌∙◌}
+use Prim.Native.Nat.{◌-◌, ◌≤◌}
+use Rattle.grid.specs.Grid.{list_of, Stored}
+use Rattle.grid.proofs.StoredLaws.{stored-length, stored-float, stored_self}
+use Rattle.blur.specs.Passes.{along_to}
+use Rattle.blur.proofs.PassLaws.{stored_over, along_first}
+use Rattle.blur.proofs.along.along.Goals as goal
+
+pub bounds-k-0 : goal.bounds-k-0
+bounds-k-0 c = omega arith
+
+pub weigh-requires : goal.weigh-requires
+weigh-requires c = let p = c.requires in record { n_in_bounds = omega (arith, p.0.long, p.0.most); n_in_bounds_2 = p.1.1 }
+
+pub loop-t-init : goal.loop-t-init
+loop-t-init c =
+    let p = c.requires in
+    let w = c.weigh.ensures in
+    (omega arith, stored_self _ _ (omega (arith, p.1.1, stored-length w)) (λ r less. stored-float _ w p.1.1 r less ∙ along_first _ _ _ p.0 r))
+
+pub step-t-requires : goal.step-t-requires
+step-t-requires c =
+    let p = c.requires in
+    let l = c.loop-t in
+    let w = c.weigh.ensures in (
+      p.0,
+      (p.1.0, (c.loop-t-test.true, (omega (arith, p.1.1, stored-length l.invariant.1, stored-length w), stored-float _ l.invariant.1 (omega (arith, p.1.1, stored-length w))))),
+    )
+
+pub loop-t-smaller : goal.loop-t-smaller
+loop-t-smaller c = omega (arith, c.step-t.ensures.more, c.step-t.ensures.most)
+
+pub loop-t-preserved : goal.loop-t-preserved
+loop-t-preserved c =
+    let s = c.step-t.ensures in
+    (s.most, stored_over _ _ _ c.loop-t.invariant.1 s.stored (omega (arith, c.requires.rows_in_bounds, stored-length c.weigh.ensures)))
+
+pub shape_of-out : goal.shape_of-out
+shape_of-out c = stored-length c.loop-t.invariant.1 ∙ stored-length c.weigh.ensures
+
+pub returns : goal.returns
+returns c =
+    let l = c.loop-t in
+    let end : l.t ≡ c.args.k.radius = omega arith in
+    stored_over _ _ _ c.weigh.ensures (rw end at l.invariant.1) c.requires.rows_in_bounds

@@ -1,0 +1,35 @@
+-- `along::step` meets its contract.
+use native.Mathlib.Omega.{arith}
+use Rattle.blur.proofs.PassLaws.{stored_same, along_more, along_two, along_four}
+use borrow.Author.Rules.{rules}
+use Rattle.blur.proofs.along.step.Goals as goal
+
+pub returns-then-v-k : goal.returns-then-v-k
+returns-then-v-k c =
+    let a = c.args in
+    let p = c.requires in
+    record {
+      more = omega arith;
+      most = c.if-v-k.true;
+      stored = stored_same _ _ c.add_four.ensures (λ r less. along_four _ _ _ p.0 _ a.t _ _ r (omega (arith, p.1.0, c.if-v-k.true)) less (p.1.1.1.1 r less) (omega arith) (omega arith));
+    }
+
+pub returns-then-u-k : goal.returns-then-u-k
+returns-then-u-k c =
+    let a = c.args in
+    let p = c.requires in
+    record {
+      more = omega arith;
+      most = c.if-u-k.true;
+      stored = stored_same _ _ c.add_two.ensures (λ r less. along_two _ _ _ p.0 _ a.t _ _ _ _ r (omega (arith, p.1.0, c.if-u-k.true)) less (p.1.1.1.1 r less) (omega arith) (omega arith) (omega arith) (omega arith));
+    }
+
+pub returns : goal.returns
+returns c =
+    let a = c.args in
+    let p = c.requires in
+    record {
+      more = omega arith;
+      most = omega (arith, p.1.1.0);
+      stored = stored_same _ _ c.add.ensures (λ r less. along_more _ _ _ p.0 _ a.t _ _ r (omega (arith, p.1.0, p.1.1.0)) less (p.1.1.1.1 r less) (omega arith) (omega arith));
+    }

@@ -1,0 +1,14 @@
+-- `stat::stat_line` meets its contract. The loop's invariant: the first i points are written.
+use mathlib.Core.Path.{◌≡◌}
+use Prim.Native.Nat.{◌≤◌, ◌-◌}
+use native.Mathlib.Omega.{arith}
+use Rattle.columns.specs.Stat.{Points}
+use Rattle.columns.proofs.StatLaws.{points_none, points-more}
+use borrow.Author.Rules.{rules}
+use Rattle.columns.proofs.stat.stat_line.Given as goal
+
+abbrev pub invariant-loop-i : goal.invariant-loop-i
+invariant-loop-i l = (l.i ≤ l.n) × Points l.sign l.a l.b l.c l.d l.r l.z l.off l.i l.initial.p l.initial.v l.p l.v
+
+abbrev pub decreases-loop-i : goal.decreases-loop-i
+decreases-loop-i l = l.n - l.i

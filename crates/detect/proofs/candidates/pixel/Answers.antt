@@ -1,0 +1,14 @@
+-- `candidates::pixel` meets its contract: a pixel without a mark lists nothing.
+use Rattle.record.proofs.LayoutLaws.{laid_none}
+use borrow.Author.Tests.{not-true}
+use borrow.Author.Rules.{rules}
+use Rattle.detect.proofs.candidates.pixel.Goals as goal
+
+pub returns-then-not-marked : goal.returns-then-not-marked
+returns-then-not-marked c = rw (c.requires.col_value (not-true c.args.marked c.if-not-marked.true-raw)) laid_none
+
+pub judged-requires : goal.judged-requires
+judged-requires c = let p = c.requires in record { sized = p.0; within = p.1.0; n_bound = p.1.1.1 }
+
+pub returns : goal.returns
+returns c = c.judged.ensures

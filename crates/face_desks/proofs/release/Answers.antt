@@ -1,0 +1,9 @@
+-- `release` meets its contract.
+use borrow.Author.Rules.{rules}
+use Rattle.face_desks.specs.Face.{call_face}
+use Rattle.face_desks.proofs.FaceLaws.{table-left-by}
+use Rattle.face_desks.proofs.release.Goals as goal
+
+pub returns : goal.returns
+unfolding call_face
+returns c = table-left-by c.told_number.ensures c.release-told.ensures

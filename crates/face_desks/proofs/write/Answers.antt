@@ -1,0 +1,9 @@
+-- `write` meets its contract.
+use borrow.Author.Rules.{rules}
+use Rattle.face_desks.specs.Face.{call_face}
+use Rattle.face_desks.proofs.FaceLaws.{table-left-by}
+use Rattle.face_desks.proofs.write.Goals as goal
+
+pub returns : goal.returns
+unfolding call_face
+returns c = table-left-by c.told_number.ensures c.write-told.ensures

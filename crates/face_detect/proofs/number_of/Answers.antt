@@ -1,0 +1,12 @@
+-- `number_of` meets its contract.
+use borrow.Author.Rules.{rules}
+use Rattle.face_detect.specs.Face.{packed}
+use Rattle.face_detect.proofs.number_of.Goals as goal
+
+pub returns-in-Found : goal.returns-in-Found
+unfolding packed
+returns-in-Found c = rw c.in-Found.is
+
+pub returns-in-Refused : goal.returns-in-Refused
+unfolding packed
+returns-in-Refused c = rw c.in-Refused.is c.number_of.ensures

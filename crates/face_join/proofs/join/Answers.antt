@@ -1,0 +1,11 @@
+-- `join` meets its contract.
+use borrow.Author.Rules.{rules}
+use Rattle.face_join.specs.Face.{join_face}
+use Rattle.face_join.proofs.FaceLaws.{join_left-by}
+use Rattle.face_join.proofs.join.Goals as goal
+
+pub returns : goal.returns
+unfolding join_face
+returns c =
+    rw (← c.read_set-read.ensures)
+    (join_left-by c.number_of.ensures c.value_of.ensures c.join-answer.ensures)

@@ -1,0 +1,16 @@
+-- `number_of` meets its contract.
+use borrow.Author.Rules.{rules}
+use Rattle.face_scene.specs.Face.{scene_packed}
+use Rattle.face_scene.proofs.number_of.Goals as goal
+
+pub returns-in-Found : goal.returns-in-Found
+unfolding scene_packed
+returns-in-Found c = rw c.in-Found.is
+
+pub returns-in-Full : goal.returns-in-Full
+unfolding scene_packed
+returns-in-Full c = rw c.in-Full.is c.number_of.ensures
+
+pub returns-in-Refused : goal.returns-in-Refused
+unfolding scene_packed
+returns-in-Refused c = rw c.in-Refused.is c.number_of-in-Refused.ensures

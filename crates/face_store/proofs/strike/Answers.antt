@@ -1,0 +1,9 @@
+-- `strike` meets its contract.
+use borrow.Author.Rules.{rules}
+use Rattle.face_store.specs.Face.{store_face}
+use Rattle.face_store.proofs.FaceLaws.{store_left-by}
+use Rattle.face_store.proofs.strike.Goals as goal
+
+pub returns : goal.returns
+unfolding store_face
+returns c = store_left-by c.number_of.ensures c.value_of.ensures c.strike-answer.ensures

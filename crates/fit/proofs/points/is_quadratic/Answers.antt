@@ -1,0 +1,6 @@
+
+use borrow.Author.Rules.{rules}
+use Rattle.fit.proofs.points.is_quadratic.Goals as goal
+
+pub returns : goal.returns
+returns c = rw c.abs.ensures

@@ -1,0 +1,9 @@
+
+use mathlib.Core.Path.{refl}
+use Rattle.fit.specs.Cubic.{horner_of}
+use borrow.Author.Rules.{rules}
+use Rattle.fit.proofs.scale_fit.horner.Goals as goal
+
+pub returns : goal.returns
+unfolding horner_of
+returns c = refl

@@ -1,0 +1,8 @@
+
+use Rattle.fit.specs.Envelope.{shape_by}
+use borrow.Author.Rules.{rules}
+use Rattle.fit.proofs.stream.shape.Goals as goal
+
+pub returns : goal.returns
+unfolding shape_by
+returns c = rw (← c.discriminant.ensures, ← c.max.ensures, ← c.sqrt.ensures, ← c.ends.ensures, ← c.turns.ensures)

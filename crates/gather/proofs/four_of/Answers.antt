@@ -1,0 +1,9 @@
+-- `four_of` meets its contract.
+use Rattle.gather.proofs.StepLaws.{each-listed}
+use native.Mathlib.Nat.{add-zero}
+use mathlib.Core.Path.{refl}
+use borrow.Author.Rules.{rules}
+use Rattle.gather.proofs.four_of.Goals as goal
+
+pub returns : goal.returns
+returns c = each-listed _ (rw add-zero refl) refl refl refl

@@ -1,0 +1,23 @@
+-- `level_list` meets its contract. The loop's invariant: the samples beside the first i codes are in the line.
+use mathlib.Core.Path.{◌≡◌}
+use Prim.Native.Nat.{◌≤◌, ◌-◌}
+use native.Mathlib.Omega.{arith}
+use borrow.Author.Rules.{rules}
+use Rattle.gather.specs.Step.{sample_from, Sampled}
+use Rattle.gather.proofs.ListLaws.{sampled_none, sampled_more}
+use Rattle.gather.proofs.level_list.Goals as goal
+
+pub loop-i-init : goal.loop-i-init
+loop-i-init c = (omega arith, sampled_none _ _ _ c.requires.n_bound.2)
+
+pub put_samples-requires : goal.put_samples-requires
+put_samples-requires c = record { span = c.requires.span; n_bound = (c.requires.n_bound.0, c.loop-i.invariant.1.long) }
+
+pub loop-i-preserved : goal.loop-i-preserved
+loop-i-preserved c = (omega arith, sampled_more c.loop-i.invariant.1 c.pixel_of.result c.pixel_of.ensures c.put_samples.ensures)
+
+pub returns : goal.returns
+returns c =
+    let l = c.loop-i in
+    let e : c.args.k ≡ l.i = omega (arith, c.loop-i-test.false) in
+    rw e l.invariant.1

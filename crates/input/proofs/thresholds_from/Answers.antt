@@ -1,0 +1,6 @@
+-- `thresholds_from` meets its contract.
+use borrow.Author.Rules.{rules}
+use Rattle.input.proofs.thresholds_from.Goals as goal
+
+pub returns : goal.returns
+returns c = cc

@@ -1,0 +1,6 @@
+-- `join_old` meets its contract.
+use borrow.Author.Rules.{rules}
+use Rattle.join.proofs.join_old.Goals as goal
+
+pub returns : goal.returns
+returns c = c.join_by.ensures

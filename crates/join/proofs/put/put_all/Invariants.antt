@@ -1,0 +1,20 @@
+-- `put::put_all` meets its contract. What is left to store gives the whole buffer.
+use borrow.Author.Rules.{rules}
+use Prim.Native.Nat.{◌-◌, ◌*◌, ◌≤◌}
+use native.Mathlib.Omega.{arith}
+use mathlib.Core.Path.{◌≡◌, refl, sym, ◌∙◌}
+use lib.ListN.{length}
+use lib.Seq.{sets}
+use Rattle.join.specs.Forms.{sized_width_of}
+use Rattle.join.specs.Join.{records_from, sized_all}
+use Rattle.join.proofs.SizedLaws.{place_inside, stored-start, stored_next, stored_end}
+use Rattle.join.proofs.put.put_all.Given as goal
+
+abbrev pub invariant-loop-i : goal.invariant-loop-i
+invariant-loop-i l =
+    (l.i ≤ l.count)
+    × ((length l.out ≡ length l.initial.out)
+    × (sets l.initial.out 0 (sized_all l.old l.set (records_from l.old l.list l.count 0)) ≡ sets l.out (l.i * sized_width_of l.old) (sized_all l.old l.set (records_from l.old l.list (l.count - l.i) l.i))))
+
+abbrev pub decreases-loop-i : goal.decreases-loop-i
+decreases-loop-i l = l.count - l.i

@@ -1,0 +1,9 @@
+-- `gauss::octave_kernel` meets its contract.
+use mathlib.Core.Path.{◌∙◌}
+use borrow.Author.Rules.{rules}
+use Rattle.kernels.specs.Kernel.{kernel_to}
+use Rattle.kernels.proofs.gauss.octave_kernel.Goals as goal
+
+pub returns : goal.returns
+unfolding kernel_to
+returns c = c.gaussian.ensures ∙ rw (c.left.ensures, c.base.ensures)

@@ -1,0 +1,15 @@
+-- `gauss::taps` meets its contract.
+use Rattle.kernels.specs.Kernel.{taps_of}
+use lib.Seq.{take-suc-set, take_all}
+use lib.ListN.{length, take, length-set}
+use native.Mathlib.Omega.{arith}
+use native.Mathlib.Numerals.{add-one}
+use Prim.Native.Nat.{◌≤◌, ◌<◌, ◌-◌}
+use mathlib.Core.Path.{◌≡◌, refl, sym, ◌∙◌}
+use Rattle.kernels.proofs.gauss.taps.Given as goal
+
+abbrev pub invariant-loop-t : goal.invariant-loop-t
+invariant-loop-t l = (l.t ≤ 17) × ((length l.a ≡ 17) × (take l.t l.a ≡ taps_of l.sigma l.radius l.t))
+
+abbrev pub decreases-loop-t : goal.decreases-loop-t
+decreases-loop-t l = 17 - l.t

@@ -1,0 +1,14 @@
+-- `add` meets its contract. The loop's invariant: the first i floats are stored.
+use Prim.Native.Nat.{◌≤◌, ◌-◌}
+use native.Mathlib.Omega.{arith}
+use mathlib.Core.Path.{◌≡◌}
+use Rattle.grid.specs.Grid.{list_of, Stored}
+use Rattle.grid.proofs.StoredLaws.{stored-none, stored_next, stored-rest, stored-length}
+use Rattle.lines.specs.Lines.{from, more}
+use Rattle.lines.proofs.add.Given as goal
+
+abbrev pub invariant-loop-i : goal.invariant-loop-i
+invariant-loop-i l = (l.i ≤ l.n) × Stored l.initial.out l.out l.at (list_of (more (from l.initial.out l.at) l.list l.lo l.hi l.w) l.i)
+
+abbrev pub decreases-loop-i : goal.decreases-loop-i
+decreases-loop-i l = l.n - l.i

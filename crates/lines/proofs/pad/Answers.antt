@@ -1,0 +1,12 @@
+-- `pad` meets its contract.
+use native.Mathlib.Omega.{arith}
+use Rattle.grid.proofs.StoredLaws.{stored-length}
+use Rattle.lines.proofs.LineLaws.{padding}
+use borrow.Author.Rules.{rules}
+use Rattle.lines.proofs.pad.Goals as goal
+
+pub repeat-requires-2 : goal.repeat-requires-2
+repeat-requires-2 c = omega (arith, stored-length c.repeat.ensures, c.requires)
+
+pub returns : goal.returns
+returns c = let p = c.requires in padding _ p.0.0 p.0.1 p.1 c.repeat.ensures c.repeat-2.ensures

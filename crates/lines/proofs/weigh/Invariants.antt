@@ -1,0 +1,14 @@
+-- `weigh` meets its contract. The loop's invariant: the first i floats are stored.
+use Prim.Native.Nat.{◌≤◌, ◌-◌}
+use native.Mathlib.Omega.{arith}
+use mathlib.Core.Path.{◌≡◌, refl}
+use Rattle.grid.specs.Grid.{list_of, Stored}
+use Rattle.grid.proofs.StoredLaws.{stored-none, stored_next, stored-length}
+use Rattle.lines.specs.Lines.{weighed}
+use Rattle.lines.proofs.weigh.Given as goal
+
+abbrev pub invariant-loop-i : goal.invariant-loop-i
+invariant-loop-i l = (l.i ≤ l.n) × Stored l.initial.out l.out l.at (list_of (weighed l.list l.p l.w) l.i)
+
+abbrev pub decreases-loop-i : goal.decreases-loop-i
+decreases-loop-i l = l.n - l.i

@@ -1,0 +1,21 @@
+-- `list` meets its contract.
+use mathlib.Core.Path.{sym, ◌∙◌}
+use Rattle.lister.specs.Output.{checked_output, list_output}
+use Rattle.lister.proofs.OutputLaws.{wrote_begins, begins_counts}
+use borrow.Author.Rules.{rules}
+use Rattle.lister.proofs.list.Goals as goal
+
+pub list_tile-requires : goal.list_tile-requires
+list_tile-requires c = sym c.checked-check.ensures ∙ c.in-Fine.is
+
+pub returns-in-Bad : goal.returns-in-Bad
+unfolding list_output checked_output
+returns-in-Bad c =
+    let b = wrote_begins c.put_refused.ensures in
+    record { begins = rw (← c.checked-check.ensures, c.in-Bad.is, ← c.number_of.ensures) b; prefix_len = begins_counts b }
+
+pub returns-in-Fine : goal.returns-in-Fine
+unfolding list_output checked_output
+returns-in-Fine c =
+    let b = c.list_tile.ensures in
+    record { begins = rw (← c.checked-check.ensures, c.in-Fine.is) b; prefix_len = begins_counts b }

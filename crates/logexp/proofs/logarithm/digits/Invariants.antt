@@ -1,0 +1,16 @@
+-- `logexp::logarithm::digits` meets its contract: after i turns y and f are what the definition's i steps give. Assumes nothing.
+use mathlib.Core.Path.{◌≡◌, refl, sym, ap, ◌∙◌, subst}
+use Prim.Native.Nat.{ℕ, ◌+◌, ◌*◌, ◌/◌, ◌^◌, ◌≤◌, ◌<◌, ◌-◌}
+use native.Mathlib.Nat.{lt_of_lt_of_le}
+use native.Mathlib.Numerals.{add-one}
+use native.Mathlib.Omega.{arith}
+use lib.Pow.{pow_mono}
+use Rattle.logexp.specs.Log.{next, squared, digits_of}
+use Rattle.logexp.proofs.Steps.{sq_lt, top_digit, squared_in, digits_lt}
+use Rattle.logexp.proofs.logarithm.digits.Given as goal
+
+abbrev pub invariant-loop-i : goal.invariant-loop-i
+invariant-loop-i l = (l.i ≤ 21) × (l.y ≡ squared l.i l.w) × (l.f ≡ digits_of l.i l.w) × (l.y < 2 ^ 32) × (l.f < 2 ^ 21)
+
+abbrev pub decreases-loop-i : goal.decreases-loop-i
+decreases-loop-i l = 21 - l.i

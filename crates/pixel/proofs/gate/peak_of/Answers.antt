@@ -1,0 +1,11 @@
+-- `gate::peak_of` meets its contract.
+use Rattle.pixel.specs.Gate.{peak_of}
+use Rattle.pixel.proofs.gate.peak_of.Goals as goal
+
+pub returns-then-is_max : goal.returns-then-is_max
+unfolding peak_of
+returns-then-is_max c = rw c.if-is_max.true
+
+pub returns-else-is_max : goal.returns-else-is_max
+unfolding peak_of
+returns-else-is_max c = rw c.if-is_max.false

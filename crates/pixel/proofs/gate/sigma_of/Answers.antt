@@ -1,0 +1,11 @@
+-- `gate::sigma_of` meets its contract.
+use Rattle.pixel.specs.Gate.{sigma_of}
+use Rattle.pixel.proofs.gate.sigma_of.Goals as goal
+
+pub returns-then-is_max : goal.returns-then-is_max
+unfolding sigma_of
+returns-then-is_max c = rw c.if-is_max.true
+
+pub returns-else-is_max : goal.returns-else-is_max
+unfolding sigma_of
+returns-else-is_max c = rw c.if-is_max.false

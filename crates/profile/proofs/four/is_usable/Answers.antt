@@ -1,0 +1,8 @@
+-- `is_usable` meets its contract.
+use Rattle.profile.specs.Four.{usable}
+use borrow.Author.Rules.{rules}
+use Rattle.profile.proofs.four.is_usable.Goals as goal
+
+pub returns : goal.returns
+unfolding usable
+returns c = rw (← c.is_finite.ensures)

@@ -1,0 +1,9 @@
+-- `less` meets its contract.
+use Rattle.profile.specs.Four.{less_of}
+use mathlib.Core.Path.{refl}
+use borrow.Author.Rules.{rules}
+use Rattle.profile.proofs.four.less.Goals as goal
+
+pub returns : goal.returns
+unfolding less_of
+returns c = refl

@@ -1,0 +1,8 @@
+-- `record::record_from` meets its contract. Assumes nothing.
+use borrow.Author.Rules.{rules}
+use Rattle.record.specs.Layout.{record_from}
+use Rattle.record.proofs.record_from.Goals as goal
+
+pub returns : goal.returns
+unfolding record_from
+returns c = cc

@@ -1,0 +1,6 @@
+-- `ends::is_three` meets its contract.
+use borrow.Author.Rules.{rules}
+use Rattle.rivals.proofs.ends.is_three.Goals as goal
+
+pub returns : goal.returns
+returns c = cc

@@ -1,0 +1,6 @@
+-- `near::is_three` meets its contract.
+use borrow.Author.Rules.{rules}
+use Rattle.rivals.proofs.near.is_three.Goals as goal
+
+pub returns : goal.returns
+returns c = rw (c.is_reaching-3.ensures, c.is_reaching-2.ensures, c.is_reaching.ensures)

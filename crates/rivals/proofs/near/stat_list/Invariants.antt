@@ -1,0 +1,15 @@
+-- `near::stat_list` meets its contract. The loop's invariant: the first j entries are thinned to m, the others are as they were.
+use mathlib.Core.Path.{◌≡◌}
+use mathlib.Core.Bool.{true}
+use Prim.Native.Nat.{◌≤◌, ◌-◌}
+use native.Mathlib.Omega.{arith}
+use borrow.Author.Rules.{rules}
+use Rattle.rivals.specs.Near.{reached_of}
+use Rattle.rivals.proofs.ListLaws.{Thinning, thinning_none, thinning_code, thinning_more}
+use Rattle.rivals.proofs.near.stat_list.Given as goal
+
+abbrev pub invariant-loop-j : goal.invariant-loop-j
+invariant-loop-j l = (l.j ≤ l.k) × Thinning (λ e. reached_of l.sigmas l.x l.y l.z e l.p l.v ≡ true) l.initial.codes l.j l.codes l.m
+
+abbrev pub decreases-loop-j : goal.decreases-loop-j
+decreases-loop-j l = l.k - l.j

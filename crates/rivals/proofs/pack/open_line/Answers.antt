@@ -1,0 +1,25 @@
+-- `pack::open_line` meets its contract. The loop's invariant: the first i entries are written.
+use mathlib.Core.Path.{◌≡◌}
+use mathlib.Core.Bool.{cond}
+use Prim.Native.Nat.{◌+◌, ◌≤◌, ◌-◌}
+use native.Mathlib.Omega.{arith}
+use lib.Dec.{leb}
+use lib.ListN.{get_or}
+use borrow.Author.Rules.{rules}
+use Rattle.columns.specs.Line.{Written}
+use Rattle.columns.proofs.LineLaws.{written_none, written_next}
+use Rattle.rivals.proofs.pack.open_line.Goals as goal
+
+pub loop-i-init : goal.loop-i-init
+loop-i-init c = (omega arith, written_none 0 _ 0 _)
+
+pub loop-i-preserved : goal.loop-i-preserved
+loop-i-preserved c =
+    let l = c.loop-i in
+    (omega arith, written_next 0 c.is_unsure.result l.invariant.1 (omega (arith, c.requires.keep_len)) c.is_unsure.ensures)
+
+pub returns : goal.returns
+returns c =
+    let l = c.loop-i in
+    let e : 256 ≡ l.i = omega (arith, c.loop-i-test.false) in
+    rw e l.invariant.1

@@ -1,0 +1,44 @@
+-- `block` meets its contract: the four columns of the ring, and what is left of the block between them.
+use Prim.Native.Nat.{◌+◌}
+use native.Mathlib.Omega.{arith}
+use borrow.Author.Rules.{rules}
+use Rattle.samples.specs.Four.{four_of}
+use Rattle.ring.proofs.RingLaws.{ring_beside}
+use Rattle.rule.proofs.RuleLaws.{part_left}
+use Rattle.rule.proofs.block.Goals as goal
+
+pub overflow_add-s-2 : goal.overflow_add-s-2
+overflow_add-s-2 c = omega (arith, c.requires.le_position.1)
+
+pub slot-x-requires : goal.slot-x-requires
+slot-x-requires c = let p = c.requires in (p.0.rows-most, omega (arith, p.1.1.0.1))
+
+pub overflow_add-s-3 : goal.overflow_add-s-3
+overflow_add-s-3 c = omega (arith, c.requires.le_position.1)
+
+pub slot-y-requires : goal.slot-y-requires
+slot-y-requires c = let p = c.requires in (p.0.rows-most, omega (arith, p.1.1.0.1))
+
+pub overflow_add-s-4 : goal.overflow_add-s-4
+overflow_add-s-4 c = omega (arith, c.requires.le_position.1)
+
+pub slot-z-requires : goal.slot-z-requires
+slot-z-requires c = let p = c.requires in (p.0.rows-most, omega (arith, p.1.1.0.1))
+
+pub mark_block-requires : goal.mark_block-requires
+mark_block-requires c =
+    let u = c.slot-u.ensures in
+    let x = c.slot-x.ensures in
+    let y = c.slot-y.ensures in
+    let z = c.slot-z.ensures in
+    let p = c.requires in
+    record { beside = ring_beside (c.args.j + 3) c.args.n p.0 (omega arith) (omega (arith, p.1.1.0.1)) (u.1, u.2) (x.1, x.2) (y.1, y.2) (z.1, z.2); n_bound = (p.1.1.0.0, p.1.1.1.0); rings = p.1.1.1.1 }
+
+pub returns : goal.returns
+returns c =
+    let a = c.args in
+    let left = c.mark_block.ensures in (
+      part_left a.s (four_of a.r0.now a.r1.now a.r2.now a.r3.now) (four_of a.c0.now a.c1.now a.c2.now a.c3.now) a.j c.requires.le_position.0
+          c.slot-u.ensures.0 c.slot-x.ensures.0 c.slot-y.ensures.0 c.slot-z.ensures.0 left.0,
+      left.1,
+    )

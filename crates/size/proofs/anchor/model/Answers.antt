@@ -1,0 +1,8 @@
+-- `model` meets its contract.
+use Rattle.size.specs.Correct.{model_of}
+use borrow.Author.Rules.{rules}
+use Rattle.size.proofs.anchor.model.Goals as goal
+
+pub returns : goal.returns
+unfolding model_of
+returns c = rw (← c.signed_root.ensures)

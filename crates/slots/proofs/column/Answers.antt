@@ -1,0 +1,11 @@
+-- `column` meets its contract.
+use borrow.Author.Rules.{rules}
+use Rattle.slots.proofs.ColumnLaws.{filled_alike, lines_read}
+use Rattle.slots.proofs.column.Goals as goal
+
+pub points-requires : goal.points-requires
+points-requires c = let start = c.requires in record { n_bound = start.0; rings = start.1.1.1 }
+
+pub returns : goal.returns
+returns c =
+    filled_alike (lines_read c.args.set.sigmas c.log_lines.ensures) c.points.ensures

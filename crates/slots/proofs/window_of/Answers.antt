@@ -1,0 +1,6 @@
+-- `window_of` meets its contract.
+use borrow.Author.Rules.{rules}
+use Rattle.slots.proofs.window_of.Goals as goal
+
+pub returns : goal.returns
+returns c = rw c.is_within.ensures

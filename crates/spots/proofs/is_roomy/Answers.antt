@@ -1,0 +1,45 @@
+-- `is_roomy` meets its contract: a marked pixel lists at most two records, any other none.
+use mathlib.Core.Path.{sym}
+use Prim.Native.Nat.{◌-◌, ◌*◌}
+use native.Mathlib.Omega.{arith}
+use lib.ListN.{length}
+use borrow.Author.Tests.{le-leb}
+use Rattle.record.specs.Layout.{spot_width}
+use Rattle.samples.specs.Four.{four_of}
+use Rattle.ring.specs.Ring.{column_spots}
+use Rattle.ring.proofs.SpotsLaws.{column_short, height-most}
+use Rattle.spots.proofs.MarkedLaws.{marked_short}
+use borrow.Author.Rules.{rules}
+use Rattle.spots.proofs.is_roomy.Goals as goal
+
+pub marked-requires : goal.marked-requires
+marked-requires c =
+    let a = c.args in
+    let p = c.requires in
+    omega (arith, p.1.1.0, height-most a.s, p.0.rows-most)
+
+pub overflow_mul-marked : goal.overflow_mul-marked
+overflow_mul-marked c =
+    let a = c.args in
+    let p = c.requires in
+    omega (arith, c.marked.ensures.1, p.1.1.0, height-most a.s, p.0.rows-most)
+
+pub returns-then-marked-room : goal.returns-then-marked-room
+returns-then-marked-room c =
+    let a = c.args in
+    let p = c.requires in
+    let ring = four_of a.r0.now a.r1.now a.r2.now a.r3.now in
+    let given = four_of a.c0.now a.c1.now a.c2.now a.c3.now in
+    let short = marked_short a.s ring given a.n a.marks.now p.1.1.1.ruled in
+    sym (le-leb (length (column_spots a.s ring given (a.s.position - 2) a.n) * spot_width) a.room (omega (arith, c.if-marked-room.true, c.marked.ensures.0, short)))
+
+pub overflow_mul-result : goal.overflow_mul-result
+overflow_mul-result c =
+    let a = c.args in
+    let p = c.requires in
+    let ring = four_of a.r0.now a.r1.now a.r2.now a.r3.now in
+    let given = four_of a.c0.now a.c1.now a.c2.now a.c3.now in
+    omega (arith, c.count.ensures, column_short a.s ring given (a.s.position - 2) a.n, p.1.1.0, height-most a.s, p.0.rows-most)
+
+pub returns : goal.returns
+returns c = rw c.count.ensures

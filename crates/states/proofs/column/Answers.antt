@@ -1,0 +1,41 @@
+-- `column` meets its contract, refusals and all.
+use mathlib.Core.Path.{ap, ◌∙◌}
+use native.Mathlib.Omega.{arith}
+use Rattle.samples.specs.Four.{four_of}
+use Rattle.ring.specs.declared.State.{State}
+use Rattle.feed.specs.declared.Answer.TheVariants.{Taken, Refused}
+use Rattle.feed.specs.Feed.{column_of}
+use Rattle.states.specs.Bytes.{column_left_by}
+use Rattle.states.proofs.CallLaws.{column_short, column_by, position_small}
+use borrow.Author.Rules.{rules}
+use Rattle.states.proofs.column.Goals as goal
+
+pub returns-then-state-lt564 : goal.returns-then-state-lt564
+returns-then-state-lt564 c =
+    let a = c.args in
+    let given = four_of a.c0.now a.c1.now a.c2.now a.c3.now in
+    let ring = four_of a.r0.now a.r1.now a.r2.now a.r3.now in
+    rw c.number_of.ensures (column_short a.state.now given ring a.out.now c.if-state-lt564.true)
+
+pub advance-requires : goal.advance-requires
+advance-requires c =
+    let a = c.args in
+    let given = four_of a.c0.now a.c1.now a.c2.now a.c3.now in
+    let ring = four_of a.r0.now a.r1.now a.r2.now a.r3.now in
+    record { in_bounds = omega (arith, c.if-state-lt564.false); state_bound = position_small a.state.now given ring a.out.now (omega (arith, c.if-state-lt564.false)) _ _ _ (c.feed_column-fed.ensures ∙ ap (λ (s : State). column_of s given ring a.out.now) c.state_of-s.ensures) _ c.in-Taken.is }
+
+pub returns-in-Taken : goal.returns-in-Taken
+unfolding column_left_by
+returns-in-Taken c =
+    let a = c.args in
+    let given = four_of a.c0.now a.c1.now a.c2.now a.c3.now in
+    let ring = four_of a.r0.now a.r1.now a.r2.now a.r3.now in
+    rw c.advance.ensures (column_by a.state.now given ring a.out.now (omega (arith, c.if-state-lt564.false)) _ _ _ (c.feed_column-fed.ensures ∙ ap (λ (s : State). column_of s given ring a.out.now) c.state_of-s.ensures) (Taken _) c.in-Taken.is)
+
+pub returns-in-Refused : goal.returns-in-Refused
+unfolding column_left_by
+returns-in-Refused c =
+    let a = c.args in
+    let given = four_of a.c0.now a.c1.now a.c2.now a.c3.now in
+    let ring = four_of a.r0.now a.r1.now a.r2.now a.r3.now in
+    rw (c.number_of-in-Refused.ensures, c.value_of.ensures) (column_by a.state.now given ring a.out.now (omega (arith, c.if-state-lt564.false)) _ _ _ (c.feed_column-fed.ensures ∙ ap (λ (s : State). column_of s given ring a.out.now) c.state_of-s.ensures) (Refused _) c.in-Refused.is)

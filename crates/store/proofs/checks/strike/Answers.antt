@@ -1,0 +1,33 @@
+-- `checks::strike` meets its contract.
+use borrow.Author.Rules.{rules}
+use borrow.Author.Tests.{not-true, not-false}
+use mathlib.Core.Path.{◌≡◌, sym, ◌∙◌}
+use mathlib.Core.Bool.{true, false}
+use lib.ListN.{get_or}
+use Rattle.tables.specs.Refusal.{first_of, unless}
+use Rattle.store_slots.specs.Slots.{free_bytes, is_free, slots_of}
+use Rattle.store.proofs.StoreLaws.{strike_over, strike_stops}
+use Rattle.store.proofs.checks.strike.Goals as goal
+
+pub returns-then-not-is_live : goal.returns-then-not-is_live
+unfolding first_of unless
+returns-then-not-is_live c =
+    let a = c.args in
+    let fine = sym c.close_up-check.ensures ∙ c.in-Fine.is in
+    let live = c.is_live in
+    let free : is_free (get_or (slots_of a.b.now) a.i free_bytes) ≡ true = not-false _ (sym live.ensures ∙ not-true live.result c.if-not-is_live.true-raw) in
+    rw (strike_over a.rows a.cols a.b.now a.i fine, free)
+
+pub returns-in-Bad : goal.returns-in-Bad
+returns-in-Bad c =
+    let a = c.args in
+    sym (strike_stops a.rows a.cols a.b.now a.i _ (sym c.close_up-check.ensures ∙ c.in-Bad.is))
+
+pub returns-else-not-is_live : goal.returns-else-not-is_live
+unfolding first_of unless
+returns-else-not-is_live c =
+    let a = c.args in
+    let fine = sym c.close_up-check.ensures ∙ c.in-Fine.is in
+    let live = c.is_live in
+    let held : is_free (get_or (slots_of a.b.now) a.i free_bytes) ≡ false = not-true _ (sym live.ensures ∙ not-false live.result c.if-not-is_live.false-raw) in
+    rw (strike_over a.rows a.cols a.b.now a.i fine, held)

@@ -1,0 +1,71 @@
+-- `search::first_bad` meets its contract.
+use borrow.Author.Rules.{rules}
+use borrow.Author.Tests.{ltb-true, eqb-true}
+use Prim.Native.Nat.{◌-◌, ◌*◌, ◌/◌, ◌≤◌}
+use native.Mathlib.Omega.{arith}
+use mathlib.Core.Logic.{⊎_elim}
+use mathlib.Core.Path.{sym, ◌∙◌}
+use lib.Dec.{ltb, eqb}
+use lib.ListN.{length}
+use Rattle.float.proofs.Bools.{both}
+use Rattle.record.specs.Layout.{spot_width}
+use Rattle.store_slots.specs.Slots.{bad_slot}
+use Rattle.store_slots.proofs.SlotLaws.{part_slot, part_length}
+use Rattle.store_slots.proofs.SearchLaws.{Searched, searched_start, searched_here, searched_next, searched_end, loop_over}
+use Rattle.store_slots.proofs.search.first_bad.Goals as goal
+
+pub loop-i-init : goal.loop-i-init
+loop-i-init c = let a = c.args in (omega arith, searched_start (bad_slot a.rows a.cols) a.b.now)
+
+pub overflow_mul-at : goal.overflow_mul-at
+overflow_mul-at c = omega arith
+
+pub overflow_add-end : goal.overflow_add-end
+overflow_add-end c = omega arith
+
+pub slice_bounds-is_bad-count : goal.slice_bounds-is_bad-count
+slice_bounds-is_bad-count c = omega arith
+
+-- part-is-bad-start : tie.Need-slice-bounds-is-bad-start invariant-loop decreases-loop
+-- part-is-bad-start c = search rules
+
+-- part-is-bad-end : tie.Need-slice-bounds-is-bad-end invariant-loop decreases-loop
+-- part-is-bad-end c =
+--     let a = c.before.before.before.args in
+--     let l = c.before.loop in
+--     omega (arith, ltb-true l.i (length a.b.now / spot_width) (both _ _ c.loop-test.true).0)
+
+pub is_bad-requires : goal.is_bad-requires
+is_bad-requires c =
+    let a = c.args in
+    let l = c.loop-i in
+    let inside = ltb-true l.i (length a.b.now / spot_width) (both _ _ c.loop-i-test.true).0 in
+    record { rows_bound = omega arith; cols_bound = omega arith; s_len = part_length a.b.now (l.i * spot_width) (omega arith) }
+
+pub overflow_add-i : goal.overflow_add-i
+overflow_add-i c = omega arith
+
+pub loop-i-smaller : goal.loop-i-smaller
+loop-i-smaller c =
+    let a = c.args in
+    let l = c.loop-i in
+    omega (arith, ltb-true l.i (length a.b.now / spot_width) (both _ _ c.loop-i-test.true).0)
+
+pub loop-i-preserved : goal.loop-i-preserved
+loop-i-preserved c =
+    let a = c.args in
+    let l = c.loop-i in
+    let test = both (ltb l.i (length a.b.now / spot_width)) (eqb l.bad (length a.b.now / spot_width)) c.loop-i-test.true in
+    let inside = ltb-true l.i (length a.b.now / spot_width) test.0 in
+    let yet = eqb-true l.bad (length a.b.now / spot_width) test.1 in
+    let own = part_slot a.b.now (l.i * spot_width) in
+    ⊎_elim
+    (λ w. rw w.1 (omega arith, searched_here (bad_slot a.rows a.cols) a.b.now l.i l.bad l.invariant.1 yet inside (rw (← own) (sym c.is_bad.ensures ∙ w.0.taken))))
+    (λ w. rw w.1 (omega arith, searched_next (bad_slot a.rows a.cols) a.b.now l.i l.bad l.invariant.1 yet inside (rw (← own) (sym c.is_bad.ensures ∙ w.0.left))))
+    c.if-is_bad.branch
+
+pub returns : goal.returns
+returns c =
+    let a = c.args in
+    let l = c.loop-i in
+    searched_end (bad_slot a.rows a.cols) a.b.now l.i l.bad l.invariant.1 l.invariant.0 (loop_over l.i l.bad (length a.b.now / spot_width) c.loop-i-test.false)

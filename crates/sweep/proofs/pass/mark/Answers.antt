@@ -1,0 +1,16 @@
+-- `pass::mark` meets its contract.
+use Prim.Native.Nat.{ℕ}
+use native.Mathlib.Omega.{arith}
+use lib.ListN.{length-replicate}
+use Rattle.sweep.proofs.PassLaws.{passed-by}
+use Rattle.sweep.proofs.pass.mark.Goals as goal
+
+pub thin-requires : goal.thin-requires
+thin-requires c = let p = c.requires in record { x_bound = p.0; z_bound = (p.1.0.0, omega (arith, p.1.0.1)); keep_len = (length-replicate {A = ℕ} 256 0, λ i h. p.1.1.1 i (omega arith)) }
+
+pub put_line-requires : goal.put_line-requires
+put_line-requires c = let p = c.requires in record { col_bound = p.1.1.0.0; by_index = c.thin.ensures.bits; marks_len = p.1.1.0.1 }
+
+pub returns : goal.returns
+returns c =
+    passed-by c.args.set c.args.ratio c.args.n c.args.x c.args.y c.args.z _ _ _ _ _ _ _ _ c.args.col _ _ c.requires.z_bound.1 c.thin.ensures c.put_line.ensures

@@ -1,0 +1,8 @@
+-- `is_good` meets its contract.
+use Rattle.tables.specs.Set.{good}
+use borrow.Author.Rules.{rules}
+use Rattle.tables.proofs.is_good.Goals as goal
+
+pub returns : goal.returns
+unfolding good
+returns c = rw (c.all_under.ensures, c.is_rising.ensures, c.all_set.ensures)

@@ -1,0 +1,15 @@
+-- `copy::copy_column` meets its contract. The loop's invariant: the first r floats are stored.
+use mathlib.Core.Path.{◌≡◌, refl, ap, ◌∙◌}
+use Prim.Native.Nat.{◌+◌, ◌≤◌, ◌-◌}
+use native.Mathlib.Omega.{arith}
+use lib.ListN.{length, take, drop}
+use lib.Seq.{sets, length-sets}
+use lib.Ieee.{nan}
+use Rattle.words.proofs.Parts.{copied_next}
+use Rattle.tiles.proofs.copy.copy_column.Given as goal
+
+abbrev pub invariant-loop-r : goal.invariant-loop-r
+invariant-loop-r l = (l.r ≤ l.n) × (l.out ≡ sets l.initial.out l.at (take l.r (drop l.p l.level)))
+
+abbrev pub decreases-loop-r : goal.decreases-loop-r
+decreases-loop-r l = l.n - l.r

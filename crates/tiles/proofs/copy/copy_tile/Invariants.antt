@@ -1,0 +1,15 @@
+-- `copy::copy_tile` meets its contract. The loop's invariant: the first c columns are stored.
+use mathlib.Core.Path.{◌≡◌, refl, ap, ◌∙◌}
+use Prim.Native.Nat.{◌≤◌, ◌-◌}
+use native.Mathlib.Omega.{arith}
+use lib.ListN.{length}
+use lib.Seq.{sets, length-sets}
+use Rattle.tiles.specs.Copy.{gather, tile_level}
+use Rattle.tiles.proofs.CopyLaws.{cut_column, tile-next}
+use Rattle.tiles.proofs.copy.copy_tile.Given as goal
+
+abbrev pub invariant-loop-c : goal.invariant-loop-c
+invariant-loop-c l = (l.c ≤ l.w) × (l.out ≡ sets l.initial.out 0 (tile_level l.level l.rows l.r0 l.c0 l.h l.c))
+
+abbrev pub decreases-loop-c : goal.decreases-loop-c
+decreases-loop-c l = l.w - l.c
