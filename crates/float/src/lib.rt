@@ -1,6 +1,7 @@
 // The float helpers of f32: absolute value, min, max, clamp, finiteness, square root; and what reads a pattern: its two parts, and a number made wider.
 // Each has no `requires`, and its `ensures` gives the result as one value of the arguments, by a definition of specs/.
 #![tactic(auto)]
+
 mod bits;
 mod root;
 mod small;

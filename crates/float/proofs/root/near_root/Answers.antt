@@ -1,5 +1,4 @@
 -- `float::root::near_root` meets its contract. Assumes nothing.
-use borrow.Author.Rules.{rules}
 use native.Mathlib.Omega.{arith}
 use Rattle.float.proofs.Roots.{root_facts, near_down, near_up}
 use Rattle.float.proofs.root.near_root.Goals as goal

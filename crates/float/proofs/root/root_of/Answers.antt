@@ -1,10 +1,10 @@
 -- `float::root::root_of` meets its contract: `Trial` says what holds after each bit. The measure is the next bit's square. Assumes nothing.
 use mathlib.Core.Path.{◌≡◌, subst}
-use mathlib.Core.Logic.{⊎_elim}
-use Prim.Native.Nat.{◌^◌, ◌≤◌, ◌<◌}
+use Prim.Native.Nat.{◌<◌}
 use native.Mathlib.Omega.{arith}
 use Rattle.float.proofs.Trial.{Found, none_yet, bit_taken, bit_left, all_tried}
 use Rattle.float.proofs.root.root_of.Goals as goal
+use Rattle.float.proofs.root.root_of.Goals.{then-tried-rest, else-tried-rest}
 
 pub loop-bit-init : goal.loop-bit-init
 loop-bit-init c = (omega arith, omega arith, none_yet c.args.n c.requires)
@@ -23,10 +23,10 @@ loop-bit-preserved c =
     let n = c.args.n in
     let s = c.loop-bit in
     let some : 0 < s.bit = omega arith in
-    ⊎_elim
-    (λ w. rw (w.1, w.2) (omega arith, omega arith, bit_taken n s.rest s.root s.bit s.invariant.2 some (omega (arith, w.0.taken))))
-    (λ w. rw (w.1, w.2) (omega arith, omega arith, bit_left n s.rest s.root s.bit s.invariant.2 some (omega (arith, w.0.left))))
-    c.if-tried-rest.branch
+    elim c.if-tried-rest.branch [
+      | then-tried-rest w ↦ rw (w.rest-is, w.root-is) (omega arith, omega arith, bit_taken n s.rest s.root s.bit s.invariant.2 some (omega (arith, w.if-tried-rest.true)))
+      | else-tried-rest w ↦ rw (w.rest-is, w.root-is) (omega arith, omega arith, bit_left n s.rest s.root s.bit s.invariant.2 some (omega (arith, w.if-tried-rest.false)))
+    ]
 
 pub returns : goal.returns
 returns c =

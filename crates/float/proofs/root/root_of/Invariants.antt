@@ -1,9 +1,6 @@
 -- `float::root::root_of` meets its contract: `Trial` says what holds after each bit. The measure is the next bit's square. Assumes nothing.
-use mathlib.Core.Path.{◌≡◌, subst}
-use mathlib.Core.Logic.{⊎_elim}
-use Prim.Native.Nat.{◌^◌, ◌≤◌, ◌<◌}
-use native.Mathlib.Omega.{arith}
-use Rattle.float.proofs.Trial.{Found, none_yet, bit_taken, bit_left, all_tried}
+use Prim.Native.Nat.{◌^◌, ◌≤◌}
+use Rattle.float.proofs.Trial.{Found}
 use Rattle.float.proofs.root.root_of.Given as goal
 
 abbrev pub invariant-loop-bit : goal.invariant-loop-bit

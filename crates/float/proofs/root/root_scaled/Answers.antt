@@ -1,5 +1,4 @@
 -- `float::root::root_scaled` meets its contract. Assumes nothing.
-use borrow.Author.Rules.{rules}
 use mathlib.Core.Path.{◌≡◌, sym, ap, ◌∙◌, subst}
 use Prim.Native.Nat.{ℕ, ◌%◌, ◌^◌, ◌≤◌, ◌<◌}
 use native.Mathlib.Omega.{arith}
@@ -8,6 +7,7 @@ use Rattle.float.specs.Root.{near_root}
 use Rattle.float.proofs.Roots.{near_le}
 use Rattle.float.proofs.Scaled.{eight, few, twice, machine, under, under-lt, pattern_is}
 use Rattle.float.proofs.root.root_scaled.Goals as goal
+use Rattle.float.proofs.root.root_scaled.Goals.{After-near_root-q}
 
 -- the lowest digit of twice the root's exponent, or of one more
 lowest : (m k : ℕ) → bit_and (twice m k) 1 ≡ twice m k % 2
@@ -46,11 +46,11 @@ near_root-q-requires c =
     subst (λ (x : ℕ). x < 2 ^ 48) (sym (machine m k c.requires.m_nonzero.0 c.requires.m_nonzero.1 c.to_u64.result _ c.to_u64.ensures (lowest m k))) (under-lt m k c.requires.m_nonzero.0 c.requires.m_nonzero.1)
 
 pub overflow_cast-result : goal.overflow_cast-result
-overflow_cast-result c = let l = root-le c in omega arith
+overflow_cast-result c = let l = root-le (goal.at.overflow_cast-result c).After-near_root-q in omega arith
 
 pub overflow_add-result : goal.overflow_add-result
-overflow_add-result c = let l = root-le c in omega arith
+overflow_add-result c = let l = root-le (goal.at.overflow_add-result c).After-near_root-q in omega arith
 
 pub returns : goal.returns
 returns c =
-    rw (root_is c) (pattern_is c.args.m c.args.k c.requires.m_nonzero.0 c.requires.m_nonzero.1)
+    rw (root_is (goal.at.returns c).After-near_root-q) (pattern_is c.args.m c.args.k c.requires.m_nonzero.0 c.requires.m_nonzero.1)
