@@ -1,5 +1,5 @@
 -- What the refinement leaves of the spot that it is given. Definitions only.
-use Rattle.std.specs.Prelude.{List, Bool, true, false, Float}
+use Rattle.std.specs.Prelude.{List, true, false, Float}
 use Rattle.tables.specs.declared.Set.{Set}
 use Rattle.refine.specs.Refine.{refine_of}
 use Rattle.refine.specs.declared.Spot.{Spot}

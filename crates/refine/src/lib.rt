@@ -1,6 +1,7 @@
 // The refinement of a spot by the nine cubics around it: edge rejection and the place between pixels. Each function follows the published Rust's
 // operations one by one, each rounded once; the definitions are in specs/.
 #![tactic(auto)]
+
 pub mod lend;
 pub mod refine;
 

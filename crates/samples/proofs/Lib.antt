@@ -1,4 +1,3 @@
 -- Laws of levels, their samples and views.
 pub mod LevelLaws
 pub mod ViewLaws
-pub mod ViewRows

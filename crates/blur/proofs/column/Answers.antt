@@ -10,12 +10,12 @@ overflow_mul-at c = let m = c.requires.map in omega (arith, map-most m, column_i
 pub finish-requires : goal.finish-requires
 finish-requires c =
     let p = c.requires in
-    record { le_rows = (p.0.tall, p.0.rows-most); radius_bound = p.1.0.first; line_len = c.both.ensures.0.long; rows_in_bounds = omega (arith, column_inside p.0 _ p.0.inside, p.0.long, p.1.1.1.0) }
+    record { le_rows = (p.map.tall, p.map.rows-most); radius_bound = p.radii.first; line_len = c.both.ensures.0.long; rows_in_bounds = omega (arith, column_inside p.map _ p.map.inside, p.map.long, p.cols_in_bounds.0) }
 
 pub finish-requires-2 : goal.finish-requires-2
 finish-requires-2 c =
     let p = c.requires in
-    record { le_rows = (p.0.tall, p.0.rows-most); radius_bound = p.1.0.second; line_len = c.both.ensures.1.long; rows_in_bounds = omega (arith, column_inside p.0 _ p.0.inside, p.0.long, p.1.1.1.1) }
+    record { le_rows = (p.map.tall, p.map.rows-most); radius_bound = p.radii.second; line_len = c.both.ensures.1.long; rows_in_bounds = omega (arith, column_inside p.map _ p.map.inside, p.map.long, p.cols_in_bounds.1) }
 
 pub returns : goal.returns
 returns c =

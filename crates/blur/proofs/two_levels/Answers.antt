@@ -22,8 +22,8 @@ pub column-requires : goal.column-requires
 column-requires c =
     let p = c.requires in
     let l = c.loop-c in (
-      record { tall = omega (arith, c.if-rows-eq0.false); rows-most = p.0.rows-most; cols-most = p.0.cols-most; inside = c.loop-c-test.true; long = p.0.long },
-      (p.1, ((l.invariant.1, l.invariant.2), (omega (arith, p.0.room_a, stored-length l.invariant.3), omega (arith, p.0.room_b, stored-length l.invariant.4)))),
+      record { tall = omega (arith, c.if-rows-eq0.false); rows-most = p.plane.rows-most; cols-most = p.plane.cols-most; inside = c.loop-c-test.true; long = p.plane.long },
+      (p.radii, ((l.invariant.1, l.invariant.2), (omega (arith, p.plane.room_a, stored-length l.invariant.3), omega (arith, p.plane.room_b, stored-length l.invariant.4)))),
     )
 
 pub overflow_add-c : goal.overflow_add-c

@@ -8,10 +8,10 @@ use borrow.Author.Rules.{rules}
 use Rattle.feed.proofs.taken.Goals as goal
 
 pub is_roomy-fits-requires : goal.is_roomy-fits-requires
-is_roomy-fits-requires c = let p = c.requires in record { lent = p.0; cols_bound = (p.1.0, omega (arith, p.1.0, p.1.1)); n_value = c.height-n.ensures; ruled = c.mark_column.ensures }
+is_roomy-fits-requires c = let p = c.requires in record { lent = p.lent; cols_bound = (p.cols_bound.0, omega (arith, p.cols_bound.0, p.cols_bound.1)); n_value = c.height-n.ensures; ruled = c.mark_column.ensures }
 
 pub lay_spots-m-requires : goal.lay_spots-m-requires
-lay_spots-m-requires c = let p = c.requires in record { lent = p.0; cols_bound = (p.1.0, omega (arith, p.1.0, p.1.1)); n_value = c.height-n.ensures; ruled = c.mark_column.ensures }
+lay_spots-m-requires c = let p = c.requires in record { lent = p.lent; cols_bound = (p.cols_bound.0, omega (arith, p.cols_bound.0, p.cols_bound.1)); n_value = c.height-n.ensures; ruled = c.mark_column.ensures }
 
 pub overflow_mul-slot : goal.overflow_mul-slot
 overflow_mul-slot c =
@@ -22,28 +22,28 @@ pub store-requires : goal.store-requires
 store-requires c =
     let a = c.args in
     let p = c.requires in
-    omega (arith, slot-room a.s.rows a.s.position, p.0.roomy.l0, p.0.long.l0)
+    omega (arith, slot-room a.s.rows a.s.position, p.lent.roomy.l0, p.lent.long.l0)
 
 pub store-requires-2 : goal.store-requires-2
 store-requires-2 c =
     let a = c.args in
     let p = c.requires in
-    omega (arith, slot-room a.s.rows a.s.position, p.0.roomy.l1, p.0.long.l1)
+    omega (arith, slot-room a.s.rows a.s.position, p.lent.roomy.l1, p.lent.long.l1)
 
 pub store-requires-3 : goal.store-requires-3
 store-requires-3 c =
     let a = c.args in
     let p = c.requires in
-    omega (arith, slot-room a.s.rows a.s.position, p.0.roomy.l2, p.0.long.l2)
+    omega (arith, slot-room a.s.rows a.s.position, p.lent.roomy.l2, p.lent.long.l2)
 
 pub store-requires-4 : goal.store-requires-4
 store-requires-4 c =
     let a = c.args in
     let p = c.requires in
-    omega (arith, slot-room a.s.rows a.s.position, p.0.roomy.l3, p.0.long.l3)
+    omega (arith, slot-room a.s.rows a.s.position, p.lent.roomy.l3, p.lent.long.l3)
 
 pub advance-requires : goal.advance-requires
-advance-requires c = let p = c.requires in omega (arith, p.1.0, p.1.1)
+advance-requires c = let p = c.requires in omega (arith, p.cols_bound.0, p.cols_bound.1)
 
 pub shape_of-r0 : goal.shape_of-r0
 shape_of-r0 c = search (rules, c.store.auto)

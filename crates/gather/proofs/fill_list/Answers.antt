@@ -19,7 +19,7 @@ level_list-requires-4 c = record { span = c.requires.spans.l3; n_bound = (c.requ
 pub cubic_list-requires : goal.cubic_list-requires
 cubic_list-requires c =
     let p = c.requires in
-    record { n_bound = (p.1.0.0, record { first = c.level_list.ensures.long; second = c.level_list-2.ensures.long; third = c.level_list-3.ensures.long; fourth = c.level_list-4.ensures.long }); k_bound = (p.1.0.1, p.1.1.0, p.1.1.1) }
+    record { n_bound = (p.n_bound.0, record { first = c.level_list.ensures.long; second = c.level_list-2.ensures.long; third = c.level_list-3.ensures.long; fourth = c.level_list-4.ensures.long }); k_bound = (p.n_bound.1, p.z_bound.0, p.z_bound.1) }
 
 pub returns : goal.returns
 returns c =

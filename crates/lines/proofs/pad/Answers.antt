@@ -9,4 +9,4 @@ pub repeat-requires-2 : goal.repeat-requires-2
 repeat-requires-2 c = omega (arith, stored-length c.repeat.ensures, c.requires)
 
 pub returns : goal.returns
-returns c = let p = c.requires in padding _ p.0.0 p.0.1 p.1 c.repeat.ensures c.repeat-2.ensures
+returns c = let p = c.requires in padding _ p.le_n.0 p.le_n.1 p.line_len c.repeat.ensures c.repeat-2.ensures

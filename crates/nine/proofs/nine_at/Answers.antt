@@ -26,4 +26,4 @@ returns c =
     let a = c.args in
     let p = c.requires in
     c.nine_by.ensures
-    ∙ nine_there a.l0.now a.l1.now a.l2.now a.l3.now a.f.rows a.sigmas (a.row - 1) a.col _ _ _ _ _ (omega (arith, p.1.top)) p.1.left c.place-u.ensures.0 refl refl refl refl a.row (omega (arith, p.1.top))
+    ∙ nine_there a.l0.now a.l1.now a.l2.now a.l3.now a.f.rows a.sigmas (a.row - 1) a.col _ _ _ _ _ (omega (arith, p.within.top)) p.within.left c.place-u.ensures.0 refl refl refl refl a.row (omega (arith, p.within.top))

@@ -24,7 +24,7 @@ returns c =
     let p = c.requires in
     let ring = four_of a.r0.now a.r1.now a.r2.now a.r3.now in
     let given = four_of a.c0.now a.c1.now a.c2.now a.c3.now in
-    let own : a.row - 1 + 0 + 1 ≡ a.row = omega (arith, p.1.1.0) in
+    let own : a.row - 1 + 0 + 1 ≡ a.row = omega (arith, p.le_row.0) in
     c.nine_by.ensures
-    ∙ sym (nine_fed_lem ring given a.rows a.n a.g (a.row - 1) p.1.0.0 (omega (arith, p.1.1.0)) c.slot-u.ensures.0 c.slot-x.ensures.0 c.slot-y.ensures.0 c.slot-z.ensures.0 0)
+    ∙ sym (nine_fed_lem ring given a.rows a.n a.g (a.row - 1) p.le_n.0 (omega (arith, p.le_row.0)) c.slot-u.ensures.0 c.slot-x.ensures.0 c.slot-y.ensures.0 c.slot-z.ensures.0 0)
     ∙ ap (λ (row : ℕ). nine_of (samples_fed ring given a.rows a.n a.g) row (a.n - 2)) own

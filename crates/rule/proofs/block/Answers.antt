@@ -11,19 +11,19 @@ pub overflow_add-s-2 : goal.overflow_add-s-2
 overflow_add-s-2 c = omega (arith, c.requires.le_position.1)
 
 pub slot-x-requires : goal.slot-x-requires
-slot-x-requires c = let p = c.requires in (p.0.rows-most, omega (arith, p.1.1.0.1))
+slot-x-requires c = let p = c.requires in (p.lent.rows-most, omega (arith, p.n_bound.1))
 
 pub overflow_add-s-3 : goal.overflow_add-s-3
 overflow_add-s-3 c = omega (arith, c.requires.le_position.1)
 
 pub slot-y-requires : goal.slot-y-requires
-slot-y-requires c = let p = c.requires in (p.0.rows-most, omega (arith, p.1.1.0.1))
+slot-y-requires c = let p = c.requires in (p.lent.rows-most, omega (arith, p.n_bound.1))
 
 pub overflow_add-s-4 : goal.overflow_add-s-4
 overflow_add-s-4 c = omega (arith, c.requires.le_position.1)
 
 pub slot-z-requires : goal.slot-z-requires
-slot-z-requires c = let p = c.requires in (p.0.rows-most, omega (arith, p.1.1.0.1))
+slot-z-requires c = let p = c.requires in (p.lent.rows-most, omega (arith, p.n_bound.1))
 
 pub mark_block-requires : goal.mark_block-requires
 mark_block-requires c =
@@ -32,7 +32,7 @@ mark_block-requires c =
     let y = c.slot-y.ensures in
     let z = c.slot-z.ensures in
     let p = c.requires in
-    record { beside = ring_beside (c.args.j + 3) c.args.n p.0 (omega arith) (omega (arith, p.1.1.0.1)) (u.1, u.2) (x.1, x.2) (y.1, y.2) (z.1, z.2); n_bound = (p.1.1.0.0, p.1.1.1.0); rings = p.1.1.1.1 }
+    record { beside = ring_beside (c.args.j + 3) c.args.n p.lent (omega arith) (omega (arith, p.n_bound.1)) (u.1, u.2) (x.1, x.2) (y.1, y.2) (z.1, z.2); n_bound = (p.n_bound.0, p.keep_len); rings = p.rings }
 
 pub returns : goal.returns
 returns c =

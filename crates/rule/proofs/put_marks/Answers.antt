@@ -28,7 +28,7 @@ pub loop-i-preserved : goal.loop-i-preserved
 loop-i-preserved c =
     let l = c.loop-i in
     let p = c.requires in
-    (omega (arith, c.loop-i-test.true), copied_more _ l.invariant.1 (omega (arith, c.loop-i-test.true, p.0.1, p.1)) refl)
+    (omega (arith, c.loop-i-test.true), copied_more _ l.invariant.1 (omega (arith, c.loop-i-test.true, p.n_bound.1, p.marks_len)) refl)
 
 pub returns : goal.returns
 returns c = let e : c.args.n ≡ c.loop-i.i = omega arith in rw e c.loop-i.invariant.1

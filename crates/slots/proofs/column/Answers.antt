@@ -4,7 +4,7 @@ use Rattle.slots.proofs.ColumnLaws.{filled_alike, lines_read}
 use Rattle.slots.proofs.column.Goals as goal
 
 pub points-requires : goal.points-requires
-points-requires c = let start = c.requires in record { n_bound = start.0; rings = start.1.1.1 }
+points-requires c = let start = c.requires in record { n_bound = start.n_bound; rings = start.rings }
 
 pub returns : goal.returns
 returns c =

@@ -8,19 +8,19 @@ use Rattle.slots.proofs.points.Goals as goal
 pub stat_line-requires : goal.stat_line-requires
 stat_line-requires c =
     let start = c.requires in
-    record { n_bound = start.0; n_bound_2 = omega (arith, start.0); p_len = (start.1.points, start.1.values) }
+    record { n_bound = start.n_bound; n_bound_2 = omega (arith, start.n_bound); p_len = (start.rings.points, start.rings.values) }
 
 pub overflow_add-z : goal.overflow_add-z
-overflow_add-z c = let start = c.requires in omega (arith, start.0)
+overflow_add-z c = let start = c.requires in omega (arith, start.n_bound)
 
 pub stat_line-requires-2 : goal.stat_line-requires-2
 stat_line-requires-2 c =
     let start = c.requires in
     let low = c.stat_line.ensures in
-    record { n_bound = start.0; n_bound_2 = omega (arith, start.0); p_len = (low.point.long ∙ start.1.points, low.height.long ∙ start.1.values) }
+    record { n_bound = start.n_bound; n_bound_2 = omega (arith, start.n_bound); p_len = (low.point.long ∙ start.rings.points, low.height.long ∙ start.rings.values) }
 
 pub gate_line-requires : goal.gate_line-requires
-gate_line-requires c = let start = c.requires in record { n_bound = start.0; w_len = start.1.words }
+gate_line-requires c = let start = c.requires in record { n_bound = start.n_bound; w_len = start.rings.words }
 
 pub returns : goal.returns
 returns c =

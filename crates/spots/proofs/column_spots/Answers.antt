@@ -18,23 +18,23 @@ pub overflow_add-i : goal.overflow_add-i
 overflow_add-i c =
     let a = c.args in
     let p = c.requires in
-    omega (arith, p.1.1.0, height-most a.s, p.0.rows-most)
+    omega (arith, p.n_value, height-most a.s, p.lent.rows-most)
 
 pub bounds-marks-i : goal.bounds-marks-i
 bounds-marks-i c =
     let a = c.args in
     let p = c.requires in
-    omega (arith, p.1.1.0, height-most a.s, p.0.rows-most)
+    omega (arith, p.n_value, height-most a.s, p.lent.rows-most)
 
 pub marked_spots-m-requires : goal.marked_spots-m-requires
 marked_spots-m-requires c =
     let a = c.args in
     let p = c.requires in
     let l = c.loop-i in
-    let room = height-some a.s l.i (subst (λ (n : ℕ). l.i < n) p.1.1.0 c.loop-i-test.true) in
+    let room = height-some a.s l.i (subst (λ (n : ℕ). l.i < n) p.n_value c.loop-i-test.true) in
     let short = column_short a.s (four_of a.r0.now a.r1.now a.r2.now a.r3.now) (four_of a.c0.now a.c1.now a.c2.now a.c3.now) (a.s.position - 2) l.i in (
-      p.0,
-      ((room.0, p.1.0.1), ((p.1.0.0, omega (arith, l.invariant.1.count, room.2, p.0.rows-most, short)), ((omega arith, omega (arith, room.2)), p.1.1.1.ruled l.i c.loop-i-test.true))),
+      p.lent,
+      ((room.0, p.cols_bound.1), ((p.cols_bound.0, omega (arith, l.invariant.1.count, room.2, p.lent.rows-most, short)), ((omega arith, omega (arith, room.2)), p.ruled.ruled l.i c.loop-i-test.true))),
     )
 
 pub overflow_add-i-in-loop-i : goal.overflow_add-i-in-loop-i

@@ -16,13 +16,13 @@ pub marked-requires : goal.marked-requires
 marked-requires c =
     let a = c.args in
     let p = c.requires in
-    omega (arith, p.1.1.0, height-most a.s, p.0.rows-most)
+    omega (arith, p.n_value, height-most a.s, p.lent.rows-most)
 
 pub overflow_mul-marked : goal.overflow_mul-marked
 overflow_mul-marked c =
     let a = c.args in
     let p = c.requires in
-    omega (arith, c.marked.ensures.1, p.1.1.0, height-most a.s, p.0.rows-most)
+    omega (arith, c.marked.ensures.1, p.n_value, height-most a.s, p.lent.rows-most)
 
 pub returns-then-marked-room : goal.returns-then-marked-room
 returns-then-marked-room c =
@@ -30,7 +30,7 @@ returns-then-marked-room c =
     let p = c.requires in
     let ring = four_of a.r0.now a.r1.now a.r2.now a.r3.now in
     let given = four_of a.c0.now a.c1.now a.c2.now a.c3.now in
-    let short = marked_short a.s ring given a.n a.marks.now p.1.1.1.ruled in
+    let short = marked_short a.s ring given a.n a.marks.now p.ruled.ruled in
     sym (le-leb (length (column_spots a.s ring given (a.s.position - 2) a.n) * spot_width) a.room (omega (arith, c.if-marked-room.true, c.marked.ensures.0, short)))
 
 pub overflow_mul-result : goal.overflow_mul-result
@@ -39,7 +39,7 @@ overflow_mul-result c =
     let p = c.requires in
     let ring = four_of a.r0.now a.r1.now a.r2.now a.r3.now in
     let given = four_of a.c0.now a.c1.now a.c2.now a.c3.now in
-    omega (arith, c.count.ensures, column_short a.s ring given (a.s.position - 2) a.n, p.1.1.0, height-most a.s, p.0.rows-most)
+    omega (arith, c.count.ensures, column_short a.s ring given (a.s.position - 2) a.n, p.n_value, height-most a.s, p.lent.rows-most)
 
 pub returns : goal.returns
 returns c = rw c.count.ensures

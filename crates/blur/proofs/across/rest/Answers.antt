@@ -12,7 +12,7 @@ loop-s-init c = (omega arith, c.requires.holds)
 pub step-s-requires : goal.step-s-requires
 step-s-requires c =
     let p = c.requires in
-    record { map = p.0; radius_bound = p.1.0; t_lt_radius = c.loop-s-test.true; holds = c.loop-s.invariant.1 }
+    record { map = p.map; radius_bound = p.radius_bound; t_lt_radius = c.loop-s-test.true; holds = c.loop-s.invariant.1 }
 
 pub loop-s-smaller : goal.loop-s-smaller
 loop-s-smaller c = omega (arith, c.step-s.ensures.more, c.step-s.ensures.most)

@@ -14,7 +14,7 @@ pub bounds-j-0 : goal.bounds-j-0
 bounds-j-0 c = omega arith
 
 pub weigh-requires : goal.weigh-requires
-weigh-requires c = let p = c.requires in record { n_in_bounds = column_inside p.0 _ p.0.inside; n_in_bounds_2 = omega (arith, p.0.rows-most, p.1.1.0) }
+weigh-requires c = let p = c.requires in record { n_in_bounds = column_inside p.map _ p.map.inside; n_in_bounds_2 = omega (arith, p.map.rows-most, p.a_len.0) }
 
 pub overflow_mul-col-2 : goal.overflow_mul-col-2
 overflow_mul-col-2 c = let m = c.requires.map in omega (arith, map-most m, column_inside m _ m.inside)
@@ -23,15 +23,15 @@ pub bounds-k-0 : goal.bounds-k-0
 bounds-k-0 c = omega arith
 
 pub weigh-requires-2 : goal.weigh-requires-2
-weigh-requires-2 c = let p = c.requires in record { n_in_bounds = column_inside p.0 _ p.0.inside; n_in_bounds_2 = omega (arith, p.0.rows-most, p.1.1.1) }
+weigh-requires-2 c = let p = c.requires in record { n_in_bounds = column_inside p.map _ p.map.inside; n_in_bounds_2 = omega (arith, p.map.rows-most, p.a_len.1) }
 
 pub loop-t-init : goal.loop-t-init
 loop-t-init c =
     let p = c.requires in (
       omega arith,
       c.smaller-least.ensures,
-      line-holds _ _ p.1.1.0 p.0.rows-most c.weigh.ensures (λ r less. across-first _ _ _ _ _ r),
-      line-holds _ _ p.1.1.1 p.0.rows-most c.weigh-2.ensures (λ r less. across-first _ _ _ _ _ r),
+      line-holds _ _ p.a_len.0 p.map.rows-most c.weigh.ensures (λ r less. across-first _ _ _ _ _ r),
+      line-holds _ _ p.a_len.1 p.map.rows-most c.weigh-2.ensures (λ r less. across-first _ _ _ _ _ r),
     )
 
 pub overflow_add-t : goal.overflow_add-t
@@ -41,7 +41,7 @@ pub step_both-requires : goal.step_both-requires
 step_both-requires c =
     let p = c.requires in
     let l = c.loop-t in
-    record { map = p.0; t_bound = omega (arith, p.1.0.first, l.invariant.1); holds = l.invariant.2; holds_2 = l.invariant.3 }
+    record { map = p.map; t_bound = omega (arith, p.radii.first, l.invariant.1); holds = l.invariant.2; holds_2 = l.invariant.3 }
 
 pub overflow_add-t-in-loop-t : goal.overflow_add-t-in-loop-t
 overflow_add-t-in-loop-t c = omega arith

@@ -19,7 +19,7 @@ overflow_mul-hi2 c = let m = c.requires.map in omega (arith, map-most m, upper_i
 pub add_two-requires : goal.add_two-requires
 add_two-requires c =
     let p = c.requires in
-    record { n_in_bounds = lower-inside p.0 _ c.lower.ensures; n_in_bounds_2 = upper_inside p.0 _ c.upper.ensures; n_in_bounds_3 = lower-inside p.0 _ c.lower-then-u-k.ensures; n_in_bounds_4 = upper_inside p.0 _ c.upper-then-u-k.ensures; n_in_bounds_5 = omega (arith, p.0.rows-most, p.1.1.1.long) }
+    record { n_in_bounds = lower-inside p.map _ c.lower.ensures; n_in_bounds_2 = upper_inside p.map _ c.upper.ensures; n_in_bounds_3 = lower-inside p.map _ c.lower-then-u-k.ensures; n_in_bounds_4 = upper_inside p.map _ c.upper-then-u-k.ensures; n_in_bounds_5 = omega (arith, p.map.rows-most, p.holds.long) }
 
 pub returns-then-u-k : goal.returns-then-u-k
 returns-then-u-k c =
@@ -28,14 +28,14 @@ returns-then-u-k c =
     record {
       more = omega arith;
       most = c.if-u-k.true;
-      holds = line-holds _ _ p.1.1.1.long p.0.rows-most c.add_two.ensures
-          (λ r less. across_two _ _ _ _ _ _ a.t _ _ _ _ r (p.1.1.1.float r less) (column_place _ c.lower.ensures) (column_place _ c.upper.ensures) (column_place _ c.lower-then-u-k.ensures) (column_place _ c.upper-then-u-k.ensures));
+      holds = line-holds _ _ p.holds.long p.map.rows-most c.add_two.ensures
+          (λ r less. across_two _ _ _ _ _ _ a.t _ _ _ _ r (p.holds.float r less) (column_place _ c.lower.ensures) (column_place _ c.upper.ensures) (column_place _ c.lower-then-u-k.ensures) (column_place _ c.upper-then-u-k.ensures));
     }
 
 pub add-requires : goal.add-requires
 add-requires c =
     let p = c.requires in
-    record { n_in_bounds = lower-inside p.0 _ c.lower.ensures; n_in_bounds_2 = upper_inside p.0 _ c.upper.ensures; n_in_bounds_3 = omega (arith, p.0.rows-most, p.1.1.1.long) }
+    record { n_in_bounds = lower-inside p.map _ c.lower.ensures; n_in_bounds_2 = upper_inside p.map _ c.upper.ensures; n_in_bounds_3 = omega (arith, p.map.rows-most, p.holds.long) }
 
 pub returns : goal.returns
 returns c =
@@ -43,7 +43,7 @@ returns c =
     let p = c.requires in
     record {
       more = omega arith;
-      most = omega (arith, p.1.1.0);
-      holds = line-holds _ _ p.1.1.1.long p.0.rows-most c.add.ensures
-          (λ r less. across-more _ _ _ _ _ _ a.t _ _ r (p.1.1.1.float r less) (column_place _ c.lower.ensures) (column_place _ c.upper.ensures));
+      most = omega (arith, p.t_lt_radius);
+      holds = line-holds _ _ p.holds.long p.map.rows-most c.add.ensures
+          (λ r less. across-more _ _ _ _ _ _ a.t _ _ r (p.holds.float r less) (column_place _ c.lower.ensures) (column_place _ c.upper.ensures));
     }

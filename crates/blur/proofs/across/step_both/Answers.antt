@@ -19,7 +19,7 @@ overflow_mul-hi2 c = let m = c.requires.map in omega (arith, map-most m, upper_i
 pub add_both-requires : goal.add_both-requires
 add_both-requires c =
     let p = c.requires in
-    record { n_in_bounds = lower-inside p.0 _ c.lower.ensures; n_in_bounds_2 = upper_inside p.0 _ c.upper.ensures; n_in_bounds_3 = lower-inside p.0 _ c.lower-2.ensures; n_in_bounds_4 = upper_inside p.0 _ c.upper-2.ensures; n_bound = p.0.rows-most; a_len = (p.1.1.0.long, p.1.1.1.long) }
+    record { n_in_bounds = lower-inside p.map _ c.lower.ensures; n_in_bounds_2 = upper_inside p.map _ c.upper.ensures; n_in_bounds_3 = lower-inside p.map _ c.lower-2.ensures; n_in_bounds_4 = upper_inside p.map _ c.upper-2.ensures; n_bound = p.map.rows-most; a_len = (p.holds.long, p.holds_2.long) }
 
 pub returns : goal.returns
 returns c =
@@ -29,6 +29,6 @@ returns c =
     let hi = column_place a.rows c.upper.ensures in
     let lo2 = column_place a.rows c.lower-2.ensures in
     let hi2 = column_place a.rows c.upper-2.ensures in (
-      line-holds _ _ p.1.1.0.long p.0.rows-most c.add_both.ensures.0 (λ r less. across_two _ _ _ _ _ _ a.t _ _ _ _ r (p.1.1.0.float r less) lo hi lo2 hi2),
-      line-holds _ _ p.1.1.1.long p.0.rows-most c.add_both.ensures.1 (λ r less. across_two _ _ _ _ _ _ a.t _ _ _ _ r (p.1.1.1.float r less) lo hi lo2 hi2),
+      line-holds _ _ p.holds.long p.map.rows-most c.add_both.ensures.0 (λ r less. across_two _ _ _ _ _ _ a.t _ _ _ _ r (p.holds.float r less) lo hi lo2 hi2),
+      line-holds _ _ p.holds_2.long p.map.rows-most c.add_both.ensures.1 (λ r less. across_two _ _ _ _ _ _ a.t _ _ _ _ r (p.holds_2.float r less) lo hi lo2 hi2),
     )

@@ -12,21 +12,21 @@ pub bounds-k-0 : goal.bounds-k-0
 bounds-k-0 c = omega arith
 
 pub weigh-requires : goal.weigh-requires
-weigh-requires c = let p = c.requires in record { n_in_bounds = omega (arith, p.0.long, p.0.most); n_in_bounds_2 = p.1.1 }
+weigh-requires c = let p = c.requires in record { n_in_bounds = omega (arith, p.padded.long, p.padded.most); n_in_bounds_2 = p.rows_in_bounds }
 
 pub loop-t-init : goal.loop-t-init
 loop-t-init c =
     let p = c.requires in
     let w = c.weigh.ensures in
-    (omega arith, stored_self _ _ (omega (arith, p.1.1, stored-length w)) (λ r less. stored-float _ w p.1.1 r less ∙ along_first _ _ _ p.0 r))
+    (omega arith, stored_self _ _ (omega (arith, p.rows_in_bounds, stored-length w)) (λ r less. stored-float _ w p.rows_in_bounds r less ∙ along_first _ _ _ p.padded r))
 
 pub step-t-requires : goal.step-t-requires
 step-t-requires c =
     let p = c.requires in
     let l = c.loop-t in
     let w = c.weigh.ensures in (
-      p.0,
-      (p.1.0, (c.loop-t-test.true, (omega (arith, p.1.1, stored-length l.invariant.1, stored-length w), stored-float _ l.invariant.1 (omega (arith, p.1.1, stored-length w))))),
+      p.padded,
+      (p.radius_bound, (c.loop-t-test.true, (omega (arith, p.rows_in_bounds, stored-length l.invariant.1, stored-length w), stored-float _ l.invariant.1 (omega (arith, p.rows_in_bounds, stored-length w))))),
     )
 
 pub loop-t-smaller : goal.loop-t-smaller

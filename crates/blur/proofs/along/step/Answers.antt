@@ -11,7 +11,7 @@ returns-then-v-k c =
     record {
       more = omega arith;
       most = c.if-v-k.true;
-      stored = stored_same _ _ c.add_four.ensures (λ r less. along_four _ _ _ p.0 _ a.t _ _ r (omega (arith, p.1.0, c.if-v-k.true)) less (p.1.1.1.1 r less) (omega arith) (omega arith));
+      stored = stored_same _ _ c.add_four.ensures (λ r less. along_four _ _ _ p.padded _ a.t _ _ r (omega (arith, p.radius_bound, c.if-v-k.true)) less (p.held r less) (omega arith) (omega arith));
     }
 
 pub returns-then-u-k : goal.returns-then-u-k
@@ -21,7 +21,7 @@ returns-then-u-k c =
     record {
       more = omega arith;
       most = c.if-u-k.true;
-      stored = stored_same _ _ c.add_two.ensures (λ r less. along_two _ _ _ p.0 _ a.t _ _ _ _ r (omega (arith, p.1.0, c.if-u-k.true)) less (p.1.1.1.1 r less) (omega arith) (omega arith) (omega arith) (omega arith));
+      stored = stored_same _ _ c.add_two.ensures (λ r less. along_two _ _ _ p.padded _ a.t _ _ _ _ r (omega (arith, p.radius_bound, c.if-u-k.true)) less (p.held r less) (omega arith) (omega arith) (omega arith) (omega arith));
     }
 
 pub returns : goal.returns
@@ -30,6 +30,6 @@ returns c =
     let p = c.requires in
     record {
       more = omega arith;
-      most = omega (arith, p.1.1.0);
-      stored = stored_same _ _ c.add.ensures (λ r less. along_more _ _ _ p.0 _ a.t _ _ r (omega (arith, p.1.0, p.1.1.0)) less (p.1.1.1.1 r less) (omega arith) (omega arith));
+      most = omega (arith, p.t_lt_radius);
+      stored = stored_same _ _ c.add.ensures (λ r less. along_more _ _ _ p.padded _ a.t _ _ r (omega (arith, p.radius_bound, p.t_lt_radius)) less (p.held r less) (omega arith) (omega arith));
     }

@@ -8,7 +8,7 @@ pub returns-then-not-marked : goal.returns-then-not-marked
 returns-then-not-marked c = rw (c.requires.col_value (not-true c.args.marked c.if-not-marked.true-raw)) laid_none
 
 pub judged-requires : goal.judged-requires
-judged-requires c = let p = c.requires in record { sized = p.0; within = p.1.0; n_bound = p.1.1.1 }
+judged-requires c = let p = c.requires in record { sized = p.sized; within = p.within; n_bound = p.n_bound }
 
 pub returns : goal.returns
 returns c = c.judged.ensures

@@ -29,7 +29,7 @@ pub overflow_add-k-in-loop-k-2 : goal.overflow_add-k-in-loop-k-2
 overflow_add-k-in-loop-k-2 c = omega arith
 
 pub is_marked-requires : goal.is_marked-requires
-is_marked-requires c = let p = c.requires in (omega arith, omega (arith, p.0.cols-most))
+is_marked-requires c = let p = c.requires in (omega arith, omega (arith, p.sized.cols-most))
 
 pub pixel-m-requires : goal.pixel-m-requires
 pixel-m-requires c =
@@ -37,11 +37,11 @@ pixel-m-requires c =
     let p = c.requires in
     let l = c.loop-k in
     let m = maps_of a.l0.now a.l1.now a.l2.now a.l3.now a.f a.set a.th in (
-      p.0,
+      p.sized,
       (
         record { top = omega arith; bottom = omega arith; left = omega arith; right = omega arith },
         (
-          λ none. nothing-listed m (a.j + 4) (l.k + 4) (unmarked-nothing m a.j l.k p.1.0 (omega arith) p.1.1.0 (mark-none a.marks.now (a.j % 254) (l.k + 4) (sym c.is_marked.ensures ∙ none))),
+          λ none. nothing-listed m (a.j + 4) (l.k + 4) (unmarked-nothing m a.j l.k p.j_bound (omega arith) p.block (mark-none a.marks.now (a.j % 254) (l.k + 4) (sym c.is_marked.ensures ∙ none))),
           omega (arith, l.invariant.1.count, row_due-short m (a.j + 4) l.k),
         ),
       ),

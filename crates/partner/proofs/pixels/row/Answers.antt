@@ -22,23 +22,23 @@ unfolding row_due
 loop-k-init c = (omega arith, sym (walk_none _ _))
 
 pub overflow_add-k : goal.overflow_add-k
-overflow_add-k c = let p = c.requires in omega (arith, p.0.cols-most, c.loop-k.invariant.0)
+overflow_add-k c = let p = c.requires in omega (arith, p.sized.cols-most, c.loop-k.invariant.0)
 
 pub overflow_add-j : goal.overflow_add-j
-overflow_add-j c = let p = c.requires in omega (arith, p.0.rows-most, p.1.0)
+overflow_add-j c = let p = c.requires in omega (arith, p.sized.rows-most, p.j_bound)
 
 pub overflow_add-k-in-loop-k : goal.overflow_add-k-in-loop-k
-overflow_add-k-in-loop-k c = let p = c.requires in omega (arith, p.0.cols-most, c.loop-k.invariant.0)
+overflow_add-k-in-loop-k c = let p = c.requires in omega (arith, p.sized.cols-most, c.loop-k.invariant.0)
 
 pub overflow_add-k-in-loop-k-2 : goal.overflow_add-k-in-loop-k-2
-overflow_add-k-in-loop-k-2 c = let p = c.requires in omega (arith, p.0.cols-most, c.loop-k.invariant.0)
+overflow_add-k-in-loop-k-2 c = let p = c.requires in omega (arith, p.sized.cols-most, c.loop-k.invariant.0)
 
 pub is_marked-requires : goal.is_marked-requires
 is_marked-requires c =
     let p = c.requires in
     let l = c.loop-k in
     let inside = ltb-true (l.k + 8) _ (both _ _ c.loop-k-test.true).0 in
-    (omega arith, omega (arith, p.0.cols-most))
+    (omega arith, omega (arith, p.sized.cols-most))
 
 pub pixel-v-requires : goal.pixel-v-requires
 pixel-v-requires c =
@@ -46,13 +46,13 @@ pixel-v-requires c =
     let p = c.requires in
     let l = c.loop-k in
     let inside = ltb-true (l.k + 8) a.f.cols (both _ _ c.loop-k-test.true).0 in
-    let m = maps_of a.l0.now a.l1.now a.l2.now a.l3.now a.f a.set a.th in record { sized = p.0; within = (
+    let m = maps_of a.l0.now a.l1.now a.l2.now a.l3.now a.f a.set a.th in record { sized = p.sized; within = (
         record { top = omega arith; bottom = omega arith; left = omega arith; right = omega arith },
-        λ none. nothing-listed m (a.j + 4) (l.k + 4) (unmarked-nothing m a.j l.k p.1.0 inside p.1.1 (mark-none a.marks.now (a.j % 254) (l.k + 4) (sym c.is_marked.ensures ∙ none))),
+        λ none. nothing-listed m (a.j + 4) (l.k + 4) (unmarked-nothing m a.j l.k p.j_bound inside p.block (mark-none a.marks.now (a.j % 254) (l.k + 4) (sym c.is_marked.ensures ∙ none))),
       ); col_value =  }
 
 pub overflow_add-k-in-loop-k-3 : goal.overflow_add-k-in-loop-k-3
-overflow_add-k-in-loop-k-3 c = let p = c.requires in omega (arith, p.0.cols-most, c.loop-k.invariant.0)
+overflow_add-k-in-loop-k-3 c = let p = c.requires in omega (arith, p.sized.cols-most, c.loop-k.invariant.0)
 
 pub loop-k-smaller : goal.loop-k-smaller
 loop-k-smaller c =

@@ -19,4 +19,4 @@ returns-else-is_whole c = rw (c.in-Listed.is, ← c.beats_all.ensures, not-false
 pub returns-in-Nothing : goal.returns-in-Nothing
 returns-in-Nothing c =
     let a = c.args in
-    rw c.in-Nothing.is (nothing_either (ring_of a.k.now a.peak a.band a.is-max && whole_of a.nine.now))
+    rw c.in-Nothing.is (nothing_either (ring_of a.k.now a.peak a.band a.is_max && whole_of a.nine.now))

@@ -3,7 +3,7 @@ use borrow.Author.Rules.{rules}
 use Rattle.pixel.proofs.judge.listing.Goals as goal
 
 pub verdict-low-requires : goal.verdict-low-requires
-verdict-low-requires c = let p = c.requires in record { row_bound = p.0; rows_bound = p.1; k_value = c.cubics_of-k.ensures; e_value = c.shape-e.ensures }
+verdict-low-requires c = let p = c.requires in record { row_bound = p.row_bound; rows_bound = p.rows_bound; k_value = c.cubics_of-k.ensures; e_value = c.shape-e.ensures }
 
 pub verdict-high-requires : goal.verdict-high-requires
-verdict-high-requires c = let p = c.requires in record { row_bound = p.0; rows_bound = p.1; k_value = c.cubics_of-k.ensures; e_value = c.shape-e.ensures }
+verdict-high-requires c = let p = c.requires in record { row_bound = p.row_bound; rows_bound = p.rows_bound; k_value = c.cubics_of-k.ensures; e_value = c.shape-e.ensures }

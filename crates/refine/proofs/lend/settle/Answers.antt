@@ -1,7 +1,6 @@
 -- `lend::settle` meets its contract.
 use mathlib.Core.Path.{sym, ◌∙◌, ap}
 use Rattle.refine.specs.Lend.{left_of, lent_of}
-use borrow.Author.Rules.{rules}
 use Rattle.refine.proofs.lend.settle.Goals as goal
 
 pub returns-in-Accepted : goal.returns-in-Accepted

@@ -1,7 +1,6 @@
 -- `refine::moved` meets its contract.
 use Rattle.refine.specs.Refine.{moved_of}
 use borrow.Author.Tests.{not-true, not-false}
-use borrow.Author.Rules.{rules}
 use Rattle.refine.proofs.refine.moved.Goals as goal
 
 pub returns-then-denominator : goal.returns-then-denominator

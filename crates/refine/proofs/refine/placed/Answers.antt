@@ -1,6 +1,5 @@
 -- `refine::placed` meets its contract.
 use Rattle.refine.specs.Refine.{placed_of}
-use borrow.Author.Rules.{rules}
 use Rattle.refine.proofs.refine.placed.Goals as goal
 
 pub returns-then-is_nearby : goal.returns-then-is_nearby

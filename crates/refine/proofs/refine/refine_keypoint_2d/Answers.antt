@@ -1,7 +1,6 @@
 -- `refine::refine_keypoint_2d` meets its contract.
 use Rattle.refine.specs.Refine.{refine_by}
 use borrow.Author.Tests.{not-true, not-false}
-use borrow.Author.Rules.{rules}
 use Rattle.refine.proofs.refine.refine_keypoint_2d.Goals as goal
 
 pub returns-then-not-passes_edge : goal.returns-then-not-passes_edge

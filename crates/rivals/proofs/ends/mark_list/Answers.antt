@@ -23,8 +23,8 @@ overflow_cast-e c = omega (arith, (c.requires.keep_len.1 _ c.loop-j-test.true).1
 pub survives-left-requires : goal.survives-left-requires
 survives-left-requires c =
     let p = c.requires in
-    let code = p.1.1.1 _ c.loop-j-test.true in
-    record { x_bound = p.0; z_bound = (p.1.0.0, code.1); e_bound = code.0 }
+    let code = p.keep_len.1 _ c.loop-j-test.true in
+    record { x_bound = p.x_bound; z_bound = (p.z_bound.0, code.1); e_bound = code.0 }
 
 pub bounds-keep-e : goal.bounds-keep-e
 bounds-keep-e c = omega (arith, (c.requires.keep_len.1 _ c.loop-j-test.true).0)
@@ -48,7 +48,7 @@ loop-j-preserved c =
     let test = c.loop-j-test.true in
     let left = c.survives-left in (
       omega (arith, test),
-      raised_more c.raised.result left.result l.invariant.1 (omega (arith, (p.1.1.1 _ test).0, p.1.1.0)) left.ensures c.raised.ensures,
+      raised_more c.raised.result left.result l.invariant.1 (omega (arith, (p.keep_len.1 _ test).0, p.keep_len.0)) left.ensures c.raised.ensures,
     )
 
 pub returns : goal.returns

@@ -5,13 +5,13 @@ use borrow.Author.Rules.{rules}
 use Rattle.rivals.proofs.ends.nine_cubics.Goals as goal
 
 pub overflow_add-z-4 : goal.overflow_add-z-4
-overflow_add-z-4 c = let p = c.requires in omega (arith, p.1)
+overflow_add-z-4 c = let p = c.requires in omega (arith, p.z_bound)
 
 pub overflow_add-z-5 : goal.overflow_add-z-5
-overflow_add-z-5 c = let p = c.requires in omega (arith, p.1)
+overflow_add-z-5 c = let p = c.requires in omega (arith, p.z_bound)
 
 pub cubic_at-requires-9 : goal.cubic_at-requires-9
-cubic_at-requires-9 c = let p = c.requires in omega (arith, p.1)
+cubic_at-requires-9 c = let p = c.requires in omega (arith, p.z_bound)
 
 pub returns : goal.returns
 unfolding nine_in

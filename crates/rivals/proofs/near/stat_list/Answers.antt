@@ -17,14 +17,14 @@ overflow_cast-e c = omega (arith, (thinning_code _ _ _ c.requires.codes_len.1 c.
 pub is_reached-requires : goal.is_reached-requires
 is_reached-requires c =
     let p = c.requires in
-    record { x_bound = p.0; z_bound = (p.1.0.0, (thinning_code _ _ _ p.1.1.1 c.loop-j-test.true c.loop-j.invariant.1).1) }
+    record { x_bound = p.x_bound; z_bound = (p.z_bound.0, (thinning_code _ _ _ p.codes_len.1 c.loop-j-test.true c.loop-j.invariant.1).1) }
 
 pub loop-j-preserved : goal.loop-j-preserved
 loop-j-preserved c =
     let p = c.requires in
     let l = c.loop-j in
     let test = c.is_reached in
-    (omega arith, thinning_more _ _ _ test.result c.one_if_not-m.result p.1.1.1 c.loop-j-test.true (omega (arith, p.1.1.0)) (λ e. rw (← test.ensures) e) c.one_if_not-m.ensures l.invariant.1)
+    (omega arith, thinning_more _ _ _ test.result c.one_if_not-m.result p.codes_len.1 c.loop-j-test.true (omega (arith, p.codes_len.0)) (λ e. rw (← test.ensures) e) c.one_if_not-m.ensures l.invariant.1)
 
 pub returns : goal.returns
 returns c =

@@ -9,14 +9,14 @@ pub stat_list-k-requires : goal.stat_list-k-requires
 stat_list-k-requires c =
     let pre = c.requires in
     let pack = c.pack_line-m.ensures in
-    record { x_bound = pre.0; z_bound = (pre.1.0.0, omega (arith, pack.few)); codes_len = (pack.long, pack.coded) }
+    record { x_bound = pre.x_bound; z_bound = (pre.z_bound.0, omega (arith, pack.few)); codes_len = (pack.long, pack.coded) }
 
 pub mark_list-requires : goal.mark_list-requires
 mark_list-requires c =
     let pre = c.requires in
     let pack = c.pack_line-m.ensures in
     let thinned = c.stat_list-k.ensures in
-    record { x_bound = pre.0; z_bound = (pre.1.0.0, omega (arith, pack.few, thinned.few)); keep_len = (c.open_line.ensures.long ∙ pre.1.1, thinned.coded) }
+    record { x_bound = pre.x_bound; z_bound = (pre.z_bound.0, omega (arith, pack.few, thinned.few)); keep_len = (c.open_line.ensures.long ∙ pre.keep_len, thinned.coded) }
 
 pub returns : goal.returns
 returns c =

@@ -23,7 +23,7 @@ overflow_cast-e c = omega (arith, (c.requires.keep_len.1 _ c.loop-j-test.true).1
 pub is_accepted-taken-requires : goal.is_accepted-taken-requires
 is_accepted-taken-requires c =
     let p = c.requires in
-    let code = p.1.1 _ c.loop-j-test.true in
+    let code = p.keep_len.1 _ c.loop-j-test.true in
     (code.1, code.0)
 
 pub bounds-keep-e : goal.bounds-keep-e
@@ -48,7 +48,7 @@ loop-j-preserved c =
     let test = c.loop-j-test.true in
     let taken = c.is_accepted-taken in (
       omega (arith, test),
-      raised_more c.raised.result taken.result l.invariant.1 (omega (arith, (p.1.1 _ test).0, p.1.0)) taken.ensures c.raised.ensures,
+      raised_more c.raised.result taken.result l.invariant.1 (omega (arith, (p.keep_len.1 _ test).0, p.keep_len.0)) taken.ensures c.raised.ensures,
     )
 
 pub returns : goal.returns

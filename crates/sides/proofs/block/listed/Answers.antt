@@ -13,14 +13,14 @@ fill_list-requires c =
     let own = c.own_list-k.ensures in
     let pack = c.pack_line-m.ensures in
     let pre = c.requires in
-    record { spans = pre.0.before; n_bound = (pre.1.0.0, omega (arith, pack.few, own.few, pre.1.0.0)); z_bound = (omega arith, four_long pre.1.1.0) }
+    record { spans = pre.beside.before; n_bound = (pre.n_bound.0, omega (arith, pack.few, own.few, pre.n_bound.0)); z_bound = (omega arith, four_long pre.rings) }
 
 pub fill_list-requires-2 : goal.fill_list-requires-2
 fill_list-requires-2 c =
     let own = c.own_list-k.ensures in
     let pack = c.pack_line-m.ensures in
     let pre = c.requires in
-    record { spans = pre.0.after; n_bound = (pre.1.0.0, omega (arith, pack.few, own.few, pre.1.0.0)); z_bound = (omega arith, c.fill_list.ensures.long) }
+    record { spans = pre.beside.after; n_bound = (pre.n_bound.0, omega (arith, pack.few, own.few, pre.n_bound.0)); z_bound = (omega arith, c.fill_list.ensures.long) }
 
 pub side_list-o-requires : goal.side_list-o-requires
 side_list-o-requires c =
@@ -34,7 +34,7 @@ accept_list-requires c =
     let own = c.own_list-k.ensures in
     let pack = c.pack_line-m.ensures in
     let pre = c.requires in
-    record { k_bound = omega (arith, pack.few, own.few, side.few, pre.1.0.0); keep_len = (c.open_line.ensures.long ∙ pre.1.0.1, side.coded) }
+    record { k_bound = omega (arith, pack.few, own.few, side.few, pre.n_bound.0); keep_len = (c.open_line.ensures.long ∙ pre.n_bound.1, side.coded) }
 
 pub returns : goal.returns
 unfolding three_of

@@ -17,7 +17,7 @@ overflow_cast-e c = omega (arith, (thinning_code _ _ _ c.requires.codes_len.1 c.
 pub is_beside-requires : goal.is_beside-requires
 is_beside-requires c =
     let p = c.requires in
-    let code = thinning_code _ _ _ p.1.1 c.loop-j-test.true c.loop-j.invariant.1 in
+    let code = thinning_code _ _ _ p.codes_len.1 c.loop-j-test.true c.loop-j.invariant.1 in
     (code.1, code.0)
 
 pub loop-j-preserved : goal.loop-j-preserved
@@ -25,7 +25,7 @@ loop-j-preserved c =
     let p = c.requires in
     let l = c.loop-j in
     let test = c.is_beside in
-    (omega arith, thinning_more _ _ _ test.result c.one_if_not-m.result p.1.1 c.loop-j-test.true (omega (arith, p.1.0)) (λ e. rw (← test.ensures) e) c.one_if_not-m.ensures l.invariant.1)
+    (omega arith, thinning_more _ _ _ test.result c.one_if_not-m.result p.codes_len.1 c.loop-j-test.true (omega (arith, p.codes_len.0)) (λ e. rw (← test.ensures) e) c.one_if_not-m.ensures l.invariant.1)
 
 pub returns : goal.returns
 returns c =

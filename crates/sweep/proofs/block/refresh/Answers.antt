@@ -12,7 +12,7 @@ sweep-requires c =
     let h = c.height_of.ensures in
     let s = c.args in
     let fits = height-fits (s.f.rows - 8 - s.j) in
-    record { sized = p.0; n_bound = (omega (arith, h, fits.0), omega (arith, h, fits.1)); marks_len = p.1.1.0 }
+    record { sized = p.sized; n_bound = (omega (arith, h, fits.0), omega (arith, h, fits.1)); marks_len = p.marks_len }
 
 pub returns-then-j-eq0 : goal.returns-then-j-eq0
 returns-then-j-eq0 c =

@@ -8,31 +8,31 @@ use borrow.Author.Rules.{rules}
 use Rattle.sweep.proofs.pass.step.Goals as goal
 
 pub overflow_mul-mid : goal.overflow_mul-mid
-overflow_mul-mid c = let p = c.requires in omega (arith, column_small c.args.col p.0 (omega arith))
+overflow_mul-mid c = let p = c.requires in omega (arith, column_small c.args.col p.sized (omega arith))
 
 pub overflow_add-mid : goal.overflow_add-mid
-overflow_add-mid c = let p = c.requires in omega (arith, p.0.rows-most, column_small c.args.col p.0 (omega arith))
+overflow_add-mid c = let p = c.requires in omega (arith, p.sized.rows-most, column_small c.args.col p.sized (omega arith))
 
 pub overflow_add-mid-2 : goal.overflow_add-mid-2
-overflow_add-mid-2 c = let p = c.requires in omega (arith, p.0.rows-most, column_small c.args.col p.0 (omega arith))
+overflow_add-mid-2 c = let p = c.requires in omega (arith, p.sized.rows-most, column_small c.args.col p.sized (omega arith))
 
 pub overflow_sub-mid : goal.overflow_sub-mid
 overflow_sub-mid c = let s = c.args in let p = c.requires in omega (arith, a_column s.f.rows s.col (omega arith))
 
 pub overflow_add-mid-3 : goal.overflow_add-mid-3
-overflow_add-mid-3 c = let p = c.requires in omega (arith, p.0.rows-most, column_small c.args.col p.0 (omega arith))
+overflow_add-mid-3 c = let p = c.requires in omega (arith, p.sized.rows-most, column_small c.args.col p.sized (omega arith))
 
 pub column-any-requires : goal.column-any-requires
 column-any-requires c =
     let s = c.args in
     let p = c.requires in
-    let low = p.1.1.0.0 in
-    let high = p.1.1.0.1 in
-    let inside = p.1.0.0 in (
+    let low = p.le_col.0 in
+    let high = p.le_col.1 in
+    let inside = p.n_bound.0 in (
       (omega arith, omega arith),
       (
-        (reach_map _ s.j s.n s.col p.0 p.0.long0 low high inside, reach_map _ s.j s.n s.col p.0 p.0.long1 low high inside),
-        ((reach_map _ s.j s.n s.col p.0 p.0.long2 low high inside, reach_map _ s.j s.n s.col p.0 p.0.long3 low high inside), p.1.1.1.rings),
+        (reach_map _ s.j s.n s.col p.sized p.sized.long0 low high inside, reach_map _ s.j s.n s.col p.sized p.sized.long1 low high inside),
+        ((reach_map _ s.j s.n s.col p.sized p.sized.long2 low high inside, reach_map _ s.j s.n s.col p.sized p.sized.long3 low high inside), p.before.rings),
       ),
     )
 
@@ -42,13 +42,13 @@ returns-then-col-lt5 c =
     let p = c.requires in
     let m = maps_of s.l0.now s.l1.now s.l2.now s.l3.now s.f s.set s.th in
     let filled = filled_map m s.j (s.n + 2) s.col (s.col % 3 * 260) c.column-any.result _ _ _ _ _ _ _ _ _ _ _ _ _ _ (omega arith) c.column-any.ensures in
-    before-first m s.j s.n s.col s.before c.column-any.result _ _ _ _ _ _ _ _ _ _ _ _ _ _ _ p.1.0.1 p.1.1.0.0 p.1.1.1 filled c.if-col-lt5.true
+    before-first m s.j s.n s.col s.before c.column-any.result _ _ _ _ _ _ _ _ _ _ _ _ _ _ _ p.n_bound.1 p.le_col.0 p.before filled c.if-col-lt5.true
 
 pub overflow_add-col : goal.overflow_add-col
-overflow_add-col c = let p = c.requires in omega (arith, p.0.cols-most)
+overflow_add-col c = let p = c.requires in omega (arith, p.sized.cols-most)
 
 pub overflow_add-col-2 : goal.overflow_add-col-2
-overflow_add-col-2 c = let p = c.requires in omega (arith, p.0.cols-most)
+overflow_add-col-2 c = let p = c.requires in omega (arith, p.sized.cols-most)
 
 pub mark-requires : goal.mark-requires
 mark-requires c =
@@ -58,10 +58,10 @@ mark-requires c =
     let filled = filled_map m s.j (s.n + 2) s.col (s.col % 3 * 260) c.column-any.result _ _ _ _ _ _ _ _ _ _ _ _ _ _ (omega arith) c.column-any.ensures in (
       (omega arith, omega arith),
       (
-        (omega arith, p.1.0.1),
+        (omega arith, p.n_bound.1),
         (
-          (omega (arith, p.0.cols-most), p.1.1.1.long),
-          under-kept m s.j s.n s.col s.before c.column-any.result _ _ _ _ _ _ _ _ _ _ _ _ _ _ _ p.1.0.1 p.1.1.0.0 p.1.1.1 filled (omega (arith, c.if-col-lt5.false)),
+          (omega (arith, p.sized.cols-most), p.before.long),
+          under-kept m s.j s.n s.col s.before c.column-any.result _ _ _ _ _ _ _ _ _ _ _ _ _ _ _ p.n_bound.1 p.le_col.0 p.before filled (omega (arith, c.if-col-lt5.false)),
         ),
       ),
     )
@@ -72,4 +72,4 @@ returns c =
     let p = c.requires in
     let m = maps_of s.l0.now s.l1.now s.l2.now s.l3.now s.f s.set s.th in
     let filled = filled_map m s.j (s.n + 2) s.col (s.col % 3 * 260) c.column-any.result _ _ _ _ _ _ _ _ _ _ _ _ _ _ (omega arith) c.column-any.ensures in
-    before-next m s.j s.n s.col s.before c.column-any.result _ _ _ _ _ _ _ _ _ _ _ _ _ _ _ p.1.0.1 p.1.1.0.0 p.1.1.1 filled _ c.if-col-lt5.false (omega (arith, p.0.cols-most)) c.mark.ensures
+    before-next m s.j s.n s.col s.before c.column-any.result _ _ _ _ _ _ _ _ _ _ _ _ _ _ _ p.n_bound.1 p.le_col.0 p.before filled _ c.if-col-lt5.false (omega (arith, p.sized.cols-most)) c.mark.ensures

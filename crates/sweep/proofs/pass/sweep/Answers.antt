@@ -19,7 +19,7 @@ pub step-before-requires : goal.step-before-requires
 step-before-requires c =
     let p = c.requires in
     let l = c.loop-col in
-    record { sized = p.0; n_bound = p.1.0; le_col = (l.invariant.0, omega arith); before = l.invariant.2 }
+    record { sized = p.sized; n_bound = p.n_bound; le_col = (l.invariant.0, omega arith); before = l.invariant.2 }
 
 pub overflow_add-col-in-loop-col : goal.overflow_add-col-in-loop-col
 overflow_add-col-in-loop-col c = omega arith
@@ -28,7 +28,7 @@ pub loop-col-smaller : goal.loop-col-smaller
 loop-col-smaller c = omega arith
 
 pub loop-col-preserved : goal.loop-col-preserved
-loop-col-preserved c = let l = c.loop-col in let p = c.requires in (omega (arith, l.invariant.0), omega (arith, p.0.cols-most), c.step-before.ensures)
+loop-col-preserved c = let l = c.loop-col in let p = c.requires in (omega (arith, l.invariant.0), omega (arith, p.sized.cols-most), c.step-before.ensures)
 
 pub returns : goal.returns
 returns c =
