@@ -62,10 +62,11 @@ pub loop-i-preserved : goal.loop-i-preserved
 loop-i-preserved c =
     let a = c.args in
     let l = c.loop-i in
-    let h = c.requires.s0_len in (
+    let p = c.requires.s0_len in
+    let q = c.requires.s2_len in (
       omega arith,
       samples_more a.l0.now a.l1.now a.l2.now a.l3.now a.q0 a.q1 a.q2 a.q3 a.left a.mid a.right a.s0.now a.s1.now a.s2.now a.s3.now l.i c.stencil.result c.stencil-in-loop-i.result c.stencil-in-loop-i-2.result c.stencil-in-loop-i-3.result l.invariant.1
-          (omega (arith, h.0.0)) (omega (arith, h.0.1)) (omega (arith, h.1.0)) (omega (arith, h.1.1)) c.stencil.ensures c.stencil-in-loop-i.ensures c.stencil-in-loop-i-2.ensures c.stencil-in-loop-i-3.ensures,
+          (omega (arith, p.0)) (omega (arith, p.1)) (omega (arith, q.0)) (omega (arith, q.1)) c.stencil.ensures c.stencil-in-loop-i.ensures c.stencil-in-loop-i-2.ensures c.stencil-in-loop-i-3.ensures,
     )
 
 pub returns : goal.returns
