@@ -7,8 +7,8 @@ use lib.Ieee.{binary32, of_bits}
 use Rattle.logexp.specs.Exp.{ln2_in30, bias_before_carry, down_count, series_of, below_one, exp_down}
 use Rattle.float.proofs.Patterns.{not-nan_pattern}
 use Rattle.logexp.proofs.Steps.{cut_lt}
-use borrow.Author.Rules.{rules}
 use Rattle.logexp.proofs.exponential.exp_down.Goals as goal
+use Rattle.logexp.proofs.exponential.exp_down.Goals.{Else-n-lt127}
 
 cut : (c : Else-n-lt127) → c.series-p.result / 2 ^ (down_count c.args.a - 119) < 2 ^ 24
 cut c = cut_lt (down_count c.args.a) c.series-p.result c.if-n-lt127.false c.series-p.ensures.1
@@ -33,10 +33,10 @@ pub float_from_bits-result : goal.float_from_bits-result
 float_from_bits-result c = not-nan_pattern _ (omega arith)
 
 pub overflow_cast-result-else-n-lt127 : goal.overflow_cast-result-else-n-lt127
-overflow_cast-result-else-n-lt127 c = omega (arith, cut c)
+overflow_cast-result-else-n-lt127 c = omega (arith, cut (goal.at.overflow_cast-result-else-n-lt127 c).Else-n-lt127)
 
 pub float_from_bits-result-else-n-lt127 : goal.float_from_bits-result-else-n-lt127
-float_from_bits-result-else-n-lt127 c = not-nan_pattern _ (omega (arith, cut c))
+float_from_bits-result-else-n-lt127 c = not-nan_pattern _ (omega (arith, cut (goal.at.float_from_bits-result-else-n-lt127 c).Else-n-lt127))
 
 pub returns-then-n-lt127 : goal.returns-then-n-lt127
 returns-then-n-lt127 c =

@@ -6,7 +6,6 @@ use borrow.Author.Tests.{lt-ltb, le-ltb}
 use lib.Ieee.{binary32, of_bits, div}
 use Rattle.logexp.specs.Exp.{ln2_in30, bias_before_carry, up_count, series_of, capped, exp_up}
 use Rattle.float.proofs.Patterns.{not-nan_pattern}
-use borrow.Author.Rules.{rules}
 use Rattle.logexp.proofs.exponential.exp_up.Goals as goal
 
 capped_yes : (t : ℕ) → t < 0x7f80_0000 → of_bits binary32 t ≡ capped t

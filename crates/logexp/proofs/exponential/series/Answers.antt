@@ -1,6 +1,5 @@
 -- `logexp::exponential::series` meets its contract. Assumes nothing.
 use native.Mathlib.Omega.{arith}
-use borrow.Author.Rules.{rules}
 use Rattle.logexp.specs.Exp.{series_of}
 use Rattle.logexp.proofs.exponential.series.Goals as goal
 

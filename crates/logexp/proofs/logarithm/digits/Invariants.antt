@@ -1,12 +1,7 @@
 -- `logexp::logarithm::digits` meets its contract: after i turns y and f are what the definition's i steps give. Assumes nothing.
-use mathlib.Core.Path.{◌≡◌, refl, sym, ap, ◌∙◌, subst}
-use Prim.Native.Nat.{ℕ, ◌+◌, ◌*◌, ◌/◌, ◌^◌, ◌≤◌, ◌<◌, ◌-◌}
-use native.Mathlib.Nat.{lt_of_lt_of_le}
-use native.Mathlib.Numerals.{add-one}
-use native.Mathlib.Omega.{arith}
-use lib.Pow.{pow_mono}
-use Rattle.logexp.specs.Log.{next, squared, digits_of}
-use Rattle.logexp.proofs.Steps.{sq_lt, top_digit, squared_in, digits_lt}
+use mathlib.Core.Path.{◌≡◌}
+use Prim.Native.Nat.{◌^◌, ◌≤◌, ◌<◌, ◌-◌}
+use Rattle.logexp.specs.Log.{squared, digits_of}
 use Rattle.logexp.proofs.logarithm.digits.Given as goal
 
 abbrev pub invariant-loop-i : goal.invariant-loop-i

@@ -3,7 +3,6 @@ use mathlib.Core.Path.{ap}
 use borrow.Author.Tests.{le-leb, lt-leb}
 use lib.Ieee.{neg}
 use Rattle.logexp.specs.Log.{joined}
-use borrow.Author.Rules.{rules}
 use Rattle.logexp.proofs.logarithm.join.Goals as goal
 
 pub returns-then-e-ge149 : goal.returns-then-e-ge149

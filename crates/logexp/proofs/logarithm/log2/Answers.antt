@@ -1,15 +1,12 @@
 -- `logexp::logarithm::log2` meets its contract. Assumes nothing.
 use mathlib.Core.Path.{sym, subst}
 use lib.Dec.{T}
-use lib.Ieee.{binary32, of_bits, div, neg, fits}
+use lib.Ieee.{of_bits, div, neg}
 use lib.Ieee.Compare.{differs_from_itself}
 use Rattle.logexp.specs.Log.{log2_of}
 use Rattle.float.proofs.Floats.{not-nan, is-inf, is_positive}
 use Rattle.float.proofs.Patterns.{positive_bits}
 use Rattle.logexp.proofs.logarithm.log2.Goals as goal
-
-held : (c : Start) → T (fits binary32 c.args.x)
-held c = subst T (sym c.well_formed.0.1) tt
 
 pub returns-then-x : goal.returns-then-x
 unfolding log2_of
@@ -33,7 +30,7 @@ float_to_bits-x c = not-nan c.args.x c.if-x.false
 pub log2_bits-requires : goal.log2_bits-requires
 unfolding div of_bits
 log2_bits-requires c =
-    positive_bits c.args.x (held s) (is_positive c.args.x c.if-x.false c.if-x-2.false c.if-x-3.false c.if-x-4.false)
+    positive_bits c.args.x (subst T (sym c.well_formed.0.1) tt) (is_positive c.args.x c.if-x.false c.if-x-2.false c.if-x-3.false c.if-x-4.false)
 
 pub returns : goal.returns
 unfolding log2_of div of_bits

@@ -2,7 +2,6 @@
 use mathlib.Core.Path.{ap, ◌∙◌}
 use Prim.Native.Nat.{ℕ}
 use Rattle.logexp.specs.Log.{expo_of, digits_of, joined, log2_pos}
-use borrow.Author.Rules.{rules}
 use Rattle.logexp.proofs.logarithm.log2_bits.Goals as goal
 
 pub returns : goal.returns
