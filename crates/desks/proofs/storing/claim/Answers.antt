@@ -12,17 +12,17 @@ put_count-requires c =
     let a = c.args in
     let at = c.requires.at in
     record {
-      long = length-set c.put_first.new.0 (4224 + a.slot) a.desk ∙ c.put_first.auto.0 ∙ at.long;
+      long = length-set c.put_first.new.out (4224 + a.slot) a.desk ∙ c.put_first.auto.t ∙ at.long;
       inside = at.inside;
     }
 
 pub shape_of-t : goal.shape_of-t
 shape_of-t c =
     let a = c.args in
-    c.put_count.auto.0 ∙ length-set c.put_first.new.0 (4224 + a.slot) a.desk ∙ c.put_first.auto.0
+    c.put_count.auto.t ∙ length-set c.put_first.new.out (4224 + a.slot) a.desk ∙ c.put_first.auto.t
 
 pub returns : goal.returns
 unfolding zeros
 returns c =
     let a = c.args in
-    claim_parts a.t.now c.put_first.new.0 _ a.desk a.slot _ c.count_of-count.ensures c.put_first.ensures c.put_count.ensures
+    claim_parts a.t.now c.put_first.new.out _ a.desk a.slot _ c.count_of-count.ensures c.put_first.ensures c.put_count.ensures

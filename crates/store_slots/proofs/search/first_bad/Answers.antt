@@ -13,6 +13,7 @@ use Rattle.store_slots.specs.Slots.{bad_slot}
 use Rattle.store_slots.proofs.SlotLaws.{part_slot, part_length}
 use Rattle.store_slots.proofs.SearchLaws.{Searched, searched_start, searched_here, searched_next, searched_end, loop_over}
 use Rattle.store_slots.proofs.search.first_bad.Goals as goal
+use Rattle.store_slots.proofs.search.first_bad.Goals.{then-is_bad, else-is_bad}
 
 pub loop-i-init : goal.loop-i-init
 loop-i-init c = let a = c.args in (omega arith, searched_start (bad_slot a.rows a.cols) a.b.now)
@@ -25,15 +26,6 @@ overflow_add-end c = omega arith
 
 pub slice_bounds-is_bad-count : goal.slice_bounds-is_bad-count
 slice_bounds-is_bad-count c = omega arith
-
--- part-is-bad-start : tie.Need-slice-bounds-is-bad-start invariant-loop decreases-loop
--- part-is-bad-start c = search rules
-
--- part-is-bad-end : tie.Need-slice-bounds-is-bad-end invariant-loop decreases-loop
--- part-is-bad-end c =
---     let a = c.before.before.before.args in
---     let l = c.before.loop in
---     omega (arith, ltb-true l.i (length a.b.now / spot_width) (both _ _ c.loop-test.true).0)
 
 pub is_bad-requires : goal.is_bad-requires
 is_bad-requires c =
@@ -59,8 +51,7 @@ loop-i-preserved c =
     let inside = ltb-true l.i (length a.b.now / spot_width) test.0 in
     let yet = eqb-true l.bad (length a.b.now / spot_width) test.1 in
     let own = part_slot a.b.now (l.i * spot_width) in
-    ⊎_elim
-    (λ w. rw w.1 (omega arith, searched_here (bad_slot a.rows a.cols) a.b.now l.i l.bad l.invariant.1 yet inside (rw (← own) (sym c.is_bad.ensures ∙ w.0.taken))))
+    elim c.if-is_bad.branch [ then-is_bad w ↦ rw w.bad-is (omega arith, searched_here (bad_slot a.rows a.cols) a.b.now l.i l.bad l.invariant.1 yet inside (rw (← own) (sym c.is_bad.ensures ∙ w.0.taken))))
     (λ w. rw w.1 (omega arith, searched_next (bad_slot a.rows a.cols) a.b.now l.i l.bad l.invariant.1 yet inside (rw (← own) (sym c.is_bad.ensures ∙ w.0.left))))
     c.if-is_bad.branch
 

@@ -13,6 +13,7 @@ use Rattle.store_slots.specs.Slots.{is_free}
 use Rattle.store_slots.proofs.SlotLaws.{part_slot, part_length}
 use Rattle.store_slots.proofs.SearchLaws.{Searched, searched_start, searched_here, searched_next, searched_end, loop_over}
 use Rattle.store_slots.proofs.search.first_free.Goals as goal
+use Rattle.store_slots.proofs.search.first_free.Goals.{then-is_free, else-is_free}
 
 pub loop-i-init : goal.loop-i-init
 loop-i-init c = let a = c.args in (omega arith, searched_start is_free a.b.now)
@@ -25,15 +26,6 @@ overflow_add-end c = omega arith
 
 pub slice_bounds-is_free-count : goal.slice_bounds-is_free-count
 slice_bounds-is_free-count c = omega arith
-
--- part-is-free-start : tie.Need-slice-bounds-is-free-start invariant-loop decreases-loop
--- part-is-free-start c = search rules
-
--- part-is-free-end : tie.Need-slice-bounds-is-free-end invariant-loop decreases-loop
--- part-is-free-end c =
---     let a = c.before.before.before.args in
---     let l = c.before.loop in
---     omega (arith, ltb-true l.i (length a.b.now / spot_width) (both _ _ c.loop-test.true).0)
 
 pub is_free-requires : goal.is_free-requires
 is_free-requires c =
@@ -59,8 +51,7 @@ loop-i-preserved c =
     let inside = ltb-true l.i (length a.b.now / spot_width) test.0 in
     let yet = eqb-true l.free (length a.b.now / spot_width) test.1 in
     let own = part_slot a.b.now (l.i * spot_width) in
-    ⊎_elim
-    (λ w. rw w.1 (omega arith, searched_here is_free a.b.now l.i l.free l.invariant.1 yet inside (rw (← own) (sym c.is_free.ensures ∙ w.0.taken))))
+    elim c.if-is_free.branch [ then-is_free w ↦ rw w.free-is (omega arith, searched_here is_free a.b.now l.i l.free l.invariant.1 yet inside (rw (← own) (sym c.is_free.ensures ∙ w.0.taken))))
     (λ w. rw w.1 (omega arith, searched_next is_free a.b.now l.i l.free l.invariant.1 yet inside (rw (← own) (sym c.is_free.ensures ∙ w.0.left))))
     c.if-is_free.branch
 

@@ -1,5 +1,4 @@
 -- `whole::half_up::near` meets its contract. Assumes nothing.
-use borrow.Author.Rules.{rules}
 use native.Mathlib.Omega.{arith}
 use lib.Bits.{and_mask}
 use Rattle.whole.proofs.half_up.near.Goals as goal

@@ -1,10 +1,10 @@
 -- `whole::half_up::near_bits` meets its contract. Assumes nothing.
-use borrow.Author.Rules.{rules}
 use mathlib.Core.Path.{◌≡◌, sym, ap, ◌∙◌, subst}
 use Prim.Native.Nat.{ℕ, ◌+◌, ◌/◌, ◌^◌, ◌≤◌, ◌<◌}
 use native.Mathlib.Omega.{arith}
 use Rattle.whole.proofs.Patterns.{over_bits, low_bits, high_bits, mid_bits, field_between, cut_lt, shifted, machine}
 use Rattle.whole.proofs.half_up.near_bits.Goals as goal
+use Rattle.whole.proofs.half_up.near_bits.Goals.{After-field, After-near}
 
 field_is : (c : After-field) → (126 ≤ c.field.result) × (c.field.result ≤ 158)
 field_is c =
@@ -26,15 +26,15 @@ pub returns-then-b-ge1333788672 : goal.returns-then-b-ge1333788672
 returns-then-b-ge1333788672 c = sym (high_bits _ c.if-b-ge1333788672.true c.if-b-gt2139095040.false)
 
 pub overflow_sub-field : goal.overflow_sub-field
-overflow_sub-field c = (field_is c).0
+overflow_sub-field c = (field_is (goal.at.overflow_sub-field c).After-field).0
 
 pub overflow_shl-to_u64 : goal.overflow_shl-to_u64
-overflow_shl-to_u64 c = omega (arith, (field_is c).1)
+overflow_shl-to_u64 c = omega (arith, (field_is (goal.at.overflow_shl-to_u64 c).After-field).1)
 
 pub overflow_cast-result : goal.overflow_cast-result
 overflow_cast-result c =
-    let small : c.near.result < 2 ^ 32 = subst (λ (n : ℕ). n < 2 ^ 32) (sym (near-is c)) (cut_lt c.args.b c.if-b-lt1056964608.false c.if-b-ge1333788672.false) in
+    let small : c.near.result < 2 ^ 32 = subst (λ (n : ℕ). n < 2 ^ 32) (sym (near-is (goal.at.overflow_cast-result c).After-near)) (cut_lt c.args.b c.if-b-lt1056964608.false c.if-b-ge1333788672.false) in
     omega arith
 
 pub returns : goal.returns
-returns c = near-is c ∙ mid_bits c.args.b c.if-b-lt1056964608.false c.if-b-ge1333788672.false
+returns c = near-is (goal.at.returns c).After-near ∙ mid_bits c.args.b c.if-b-lt1056964608.false c.if-b-ge1333788672.false
