@@ -1,5 +1,6 @@
 // Floats weighed, added in pairs, and repeated: one loop each, which the compiler makes wide.
 #![tactic(auto)]
+
 ghost use Rattle.std.specs.Prelude.{◌≡◌, ◌+◌, ◌-◌, ◌≤◌, length};
 ghost use Rattle.grid.specs.Grid.{list_of, Stored};
 ghost use Rattle.lines.specs.Lines.{from, weighed, more, Padding};

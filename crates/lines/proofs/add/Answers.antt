@@ -1,10 +1,9 @@
 -- `add` meets its contract. The loop's invariant: the first i floats are stored.
-use Prim.Native.Nat.{◌≤◌, ◌-◌}
 use native.Mathlib.Omega.{arith}
 use mathlib.Core.Path.{◌≡◌}
-use Rattle.grid.specs.Grid.{list_of, Stored}
+use Rattle.grid.specs.Grid.{list_of}
 use Rattle.grid.proofs.StoredLaws.{stored-none, stored_next, stored-rest, stored-length}
-use Rattle.lines.specs.Lines.{from, more}
+use Rattle.lines.specs.Lines.{more}
 use Rattle.lines.proofs.add.Goals as goal
 
 pub loop-i-init : goal.loop-i-init

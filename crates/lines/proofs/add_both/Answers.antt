@@ -1,11 +1,10 @@
 -- `add_both` meets its contract. The loop's invariant: the first i floats of both lines are stored.
-use Prim.Native.Nat.{◌≤◌, ◌-◌}
 use native.Mathlib.Omega.{arith}
 use mathlib.Core.Path.{◌≡◌, refl}
-use lib.ListN.{length, length-set}
-use Rattle.grid.specs.Grid.{list_of, Stored}
+use lib.ListN.{length-set}
+use Rattle.grid.specs.Grid.{list_of}
 use Rattle.grid.proofs.StoredLaws.{stored-none, stored_next, stored-rest}
-use Rattle.lines.specs.Lines.{from, more}
+use Rattle.lines.specs.Lines.{more}
 use Rattle.lines.proofs.add_both.Goals as goal
 
 pub loop-i-init : goal.loop-i-init

@@ -1,11 +1,10 @@
 -- `add_four` meets its contract. The loop's invariant: the first i floats are stored.
-use Prim.Native.Nat.{◌+◌, ◌≤◌, ◌-◌}
 use native.Mathlib.Omega.{arith}
 use mathlib.Core.Path.{◌≡◌, refl}
-use lib.ListN.{length, length-set}
-use Rattle.grid.specs.Grid.{list_of, Stored}
+use lib.ListN.{length-set}
+use Rattle.grid.specs.Grid.{list_of}
 use Rattle.grid.proofs.StoredLaws.{stored-none, stored_next, stored-rest, stored-length}
-use Rattle.lines.specs.Lines.{from, more}
+use Rattle.lines.specs.Lines.{more}
 use Rattle.lines.proofs.add_four.Goals as goal
 
 pub loop-i-init : goal.loop-i-init

@@ -1,10 +1,8 @@
 -- `add_four` meets its contract. The loop's invariant: the first i floats are stored.
 use Prim.Native.Nat.{◌+◌, ◌≤◌, ◌-◌}
-use native.Mathlib.Omega.{arith}
-use mathlib.Core.Path.{◌≡◌, refl}
-use lib.ListN.{length, length-set}
+use mathlib.Core.Path.{◌≡◌}
+use lib.ListN.{length}
 use Rattle.grid.specs.Grid.{list_of, Stored}
-use Rattle.grid.proofs.StoredLaws.{stored-none, stored_next, stored-rest, stored-length}
 use Rattle.lines.specs.Lines.{from, more}
 use Rattle.lines.proofs.add_four.Given as goal
 

@@ -1,9 +1,6 @@
 -- `add_two` meets its contract. The loop's invariant: the first i floats are stored.
 use Prim.Native.Nat.{◌≤◌, ◌-◌}
-use native.Mathlib.Omega.{arith}
-use mathlib.Core.Path.{◌≡◌}
 use Rattle.grid.specs.Grid.{list_of, Stored}
-use Rattle.grid.proofs.StoredLaws.{stored-none, stored_next, stored-rest, stored-length}
 use Rattle.lines.specs.Lines.{from, more}
 use Rattle.lines.proofs.add_two.Given as goal
 

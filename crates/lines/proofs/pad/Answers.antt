@@ -2,7 +2,6 @@
 use native.Mathlib.Omega.{arith}
 use Rattle.grid.proofs.StoredLaws.{stored-length}
 use Rattle.lines.proofs.LineLaws.{padding}
-use borrow.Author.Rules.{rules}
 use Rattle.lines.proofs.pad.Goals as goal
 
 pub repeat-requires-2 : goal.repeat-requires-2

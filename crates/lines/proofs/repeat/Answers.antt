@@ -1,8 +1,7 @@
 -- `repeat` meets its contract. The loop's invariant: the first i places hold x.
-use Prim.Native.Nat.{◌≤◌, ◌-◌}
 use native.Mathlib.Omega.{arith}
 use mathlib.Core.Path.{◌≡◌, refl}
-use Rattle.grid.specs.Grid.{list_of, Stored}
+use Rattle.grid.specs.Grid.{list_of}
 use Rattle.grid.proofs.StoredLaws.{stored-none, stored_next, stored-length}
 use Rattle.lines.proofs.repeat.Goals as goal
 

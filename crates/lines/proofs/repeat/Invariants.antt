@@ -1,9 +1,6 @@
 -- `repeat` meets its contract. The loop's invariant: the first i places hold x.
 use Prim.Native.Nat.{◌≤◌, ◌-◌}
-use native.Mathlib.Omega.{arith}
-use mathlib.Core.Path.{◌≡◌, refl}
 use Rattle.grid.specs.Grid.{list_of, Stored}
-use Rattle.grid.proofs.StoredLaws.{stored-none, stored_next, stored-length}
 use Rattle.lines.proofs.repeat.Given as goal
 
 abbrev pub invariant-loop-i : goal.invariant-loop-i

@@ -1,8 +1,7 @@
 -- `weigh` meets its contract. The loop's invariant: the first i floats are stored.
-use Prim.Native.Nat.{◌≤◌, ◌-◌}
 use native.Mathlib.Omega.{arith}
 use mathlib.Core.Path.{◌≡◌, refl}
-use Rattle.grid.specs.Grid.{list_of, Stored}
+use Rattle.grid.specs.Grid.{list_of}
 use Rattle.grid.proofs.StoredLaws.{stored-none, stored_next, stored-length}
 use Rattle.lines.specs.Lines.{weighed}
 use Rattle.lines.proofs.weigh.Goals as goal

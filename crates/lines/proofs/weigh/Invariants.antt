@@ -1,9 +1,6 @@
 -- `weigh` meets its contract. The loop's invariant: the first i floats are stored.
 use Prim.Native.Nat.{◌≤◌, ◌-◌}
-use native.Mathlib.Omega.{arith}
-use mathlib.Core.Path.{◌≡◌, refl}
 use Rattle.grid.specs.Grid.{list_of, Stored}
-use Rattle.grid.proofs.StoredLaws.{stored-none, stored_next, stored-length}
 use Rattle.lines.specs.Lines.{weighed}
 use Rattle.lines.proofs.weigh.Given as goal
 
