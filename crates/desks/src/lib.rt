@@ -1,5 +1,6 @@
 // Two desks, one lent table of sets: a desk claims a free slot, writes its own, and gives it back.
 #![tactic(auto)]
+
 mod checks; // checks.rt: each call's checks, in their order
 mod storing; // storing.rt: what is stored
 pub mod table; // table.rt: the table's parts, read

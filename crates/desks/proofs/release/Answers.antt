@@ -1,5 +1,4 @@
 -- `release` meets its contract.
-use borrow.Author.Rules.{rules}
 use mathlib.Core.Path.{sym, ◌∙◌}
 use Rattle.desks.specs.Table.{slot_of}
 use Rattle.desks.specs.Desks.{Release, usable}

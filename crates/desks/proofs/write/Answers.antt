@@ -1,5 +1,4 @@
 -- `write` meets its contract.
-use borrow.Author.Rules.{rules}
 use mathlib.Core.Path.{sym, ◌∙◌}
 use Rattle.tables.proofs.SetLaws.{good-long}
 use Rattle.desks.specs.Table.{slot_of}

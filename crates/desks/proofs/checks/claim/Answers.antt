@@ -1,5 +1,4 @@
 -- `checks::claim` meets its contract.
-use borrow.Author.Rules.{rules}
 use borrow.Author.Tests.{not-true, not-false}
 use mathlib.Core.Path.{sym, ◌∙◌}
 use lib.Dec.{eqb}

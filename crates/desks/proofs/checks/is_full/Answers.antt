@@ -1,5 +1,4 @@
 -- `checks::is_full` meets its contract.
-use borrow.Author.Rules.{rules}
 use Rattle.desks.proofs.checks.is_full.Goals as goal
 
 pub returns : goal.returns

@@ -1,5 +1,4 @@
 -- `checks::is_good_record` meets its contract.
-use borrow.Author.Rules.{rules}
 use mathlib.Core.Path.{sym, ap, ◌∙◌}
 use Rattle.tables.specs.declared.SetRead.{SetRead}
 use Rattle.tables.proofs.SetLaws.{refused-only-bad}

@@ -1,5 +1,4 @@
 -- `checks::is_owned` meets its contract.
-use borrow.Author.Rules.{rules}
 use borrow.Author.Tests.{not-true, not-false}
 use mathlib.Core.Path.{sym, ◌∙◌}
 use Rattle.desks.proofs.CallLaws.{usable_parts}

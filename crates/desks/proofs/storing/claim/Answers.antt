@@ -1,5 +1,4 @@
 -- `storing::claim` meets its contract.
-use borrow.Author.Rules.{rules}
 use Prim.Native.Nat.{◌+◌}
 use mathlib.Core.Path.{◌∙◌}
 use lib.ListN.{length-set}
@@ -12,14 +11,14 @@ put_count-requires c =
     let a = c.args in
     let at = c.requires.at in
     record {
-      long = length-set c.put_first.new.out (4224 + a.slot) a.desk ∙ c.put_first.auto.t ∙ at.long;
+      long = length-set c.put_first.new.out (4224 + a.slot) a.desk ∙ c.put_first.auto.out ∙ at.long;
       inside = at.inside;
     }
 
 pub shape_of-t : goal.shape_of-t
 shape_of-t c =
     let a = c.args in
-    c.put_count.auto.t ∙ length-set c.put_first.new.out (4224 + a.slot) a.desk ∙ c.put_first.auto.t
+    c.put_count.auto.t ∙ length-set c.put_first.new.out (4224 + a.slot) a.desk ∙ c.put_first.auto.out
 
 pub returns : goal.returns
 unfolding zeros

@@ -1,5 +1,4 @@
 -- `storing::write` meets its contract.
-use borrow.Author.Rules.{rules}
 use Rattle.desks.proofs.CodeLaws.{write_parts}
 use Rattle.desks.proofs.storing.write.Goals as goal
 

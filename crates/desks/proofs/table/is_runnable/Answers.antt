@@ -1,5 +1,4 @@
 -- `table::is_runnable` meets its contract.
-use borrow.Author.Rules.{rules}
 use mathlib.Core.Path.{sym}
 use Rattle.desks.proofs.CodeLaws.{wrong_length, past_slots, by-owner}
 use Rattle.desks.proofs.table.is_runnable.Goals as goal

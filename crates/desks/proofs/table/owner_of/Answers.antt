@@ -1,5 +1,4 @@
 -- `table::owner_of` meets its contract.
-use borrow.Author.Rules.{rules}
 use Rattle.desks.specs.Table.{slot_of}
 use Rattle.desks.proofs.table.owner_of.Goals as goal
 

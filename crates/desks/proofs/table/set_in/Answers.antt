@@ -1,5 +1,4 @@
 -- `table::set_in` meets its contract.
-use borrow.Author.Rules.{rules}
 use Prim.Native.Nat.{◌*◌}
 use mathlib.Core.Path.{ap, ◌∙◌}
 use Rattle.tables.specs.declared.SetRead.{SetRead}
