@@ -1,9 +1,7 @@
 -- `search::first_bad` meets its contract.
-use borrow.Author.Rules.{rules}
 use borrow.Author.Tests.{ltb-true, eqb-true}
-use Prim.Native.Nat.{◌-◌, ◌*◌, ◌/◌, ◌≤◌}
+use Prim.Native.Nat.{◌*◌, ◌/◌}
 use native.Mathlib.Omega.{arith}
-use mathlib.Core.Logic.{⊎_elim}
 use mathlib.Core.Path.{sym, ◌∙◌}
 use lib.Dec.{ltb, eqb}
 use lib.ListN.{length}
@@ -11,7 +9,7 @@ use Rattle.float.proofs.Bools.{both}
 use Rattle.record.specs.Layout.{spot_width}
 use Rattle.store_slots.specs.Slots.{bad_slot}
 use Rattle.store_slots.proofs.SlotLaws.{part_slot, part_length}
-use Rattle.store_slots.proofs.SearchLaws.{Searched, searched_start, searched_here, searched_next, searched_end, loop_over}
+use Rattle.store_slots.proofs.SearchLaws.{searched_start, searched_here, searched_next, searched_end, loop_over}
 use Rattle.store_slots.proofs.search.first_bad.Goals as goal
 use Rattle.store_slots.proofs.search.first_bad.Goals.{then-is_bad, else-is_bad}
 
@@ -51,9 +49,10 @@ loop-i-preserved c =
     let inside = ltb-true l.i (length a.b.now / spot_width) test.0 in
     let yet = eqb-true l.bad (length a.b.now / spot_width) test.1 in
     let own = part_slot a.b.now (l.i * spot_width) in
-    elim c.if-is_bad.branch [ then-is_bad w ↦ rw w.bad-is (omega arith, searched_here (bad_slot a.rows a.cols) a.b.now l.i l.bad l.invariant.1 yet inside (rw (← own) (sym c.is_bad.ensures ∙ w.0.taken))))
-    (λ w. rw w.1 (omega arith, searched_next (bad_slot a.rows a.cols) a.b.now l.i l.bad l.invariant.1 yet inside (rw (← own) (sym c.is_bad.ensures ∙ w.0.left))))
-    c.if-is_bad.branch
+    elim c.if-is_bad.branch [
+      | then-is_bad w ↦ rw w.bad-is (omega arith, searched_here (bad_slot a.rows a.cols) a.b.now l.i l.bad l.invariant.1 yet inside (rw (← own) (sym c.is_bad.ensures ∙ w.if-is_bad.true)))
+      | else-is_bad w ↦ rw w.bad-is (omega arith, searched_next (bad_slot a.rows a.cols) a.b.now l.i l.bad l.invariant.1 yet inside (rw (← own) (sym c.is_bad.ensures ∙ w.if-is_bad.false)))
+    ]
 
 pub returns : goal.returns
 returns c =

@@ -1,17 +1,9 @@
 -- `search::first_bad` meets its contract.
-use borrow.Author.Rules.{rules}
-use borrow.Author.Tests.{ltb-true, eqb-true}
-use Prim.Native.Nat.{◌-◌, ◌*◌, ◌/◌, ◌≤◌}
-use native.Mathlib.Omega.{arith}
-use mathlib.Core.Logic.{⊎_elim}
-use mathlib.Core.Path.{sym, ◌∙◌}
-use lib.Dec.{ltb, eqb}
+use Prim.Native.Nat.{◌-◌, ◌/◌, ◌≤◌}
 use lib.ListN.{length}
-use Rattle.float.proofs.Bools.{both}
 use Rattle.record.specs.Layout.{spot_width}
 use Rattle.store_slots.specs.Slots.{bad_slot}
-use Rattle.store_slots.proofs.SlotLaws.{part_slot, part_length}
-use Rattle.store_slots.proofs.SearchLaws.{Searched, searched_start, searched_here, searched_next, searched_end, loop_over}
+use Rattle.store_slots.proofs.SearchLaws.{Searched}
 use Rattle.store_slots.proofs.search.first_bad.Given as goal
 
 abbrev pub invariant-loop-i : goal.invariant-loop-i

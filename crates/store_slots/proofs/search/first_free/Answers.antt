@@ -1,9 +1,7 @@
 -- `search::first_free` meets its contract.
-use borrow.Author.Rules.{rules}
 use borrow.Author.Tests.{ltb-true, eqb-true}
-use Prim.Native.Nat.{◌-◌, ◌*◌, ◌/◌, ◌≤◌}
+use Prim.Native.Nat.{◌*◌, ◌/◌}
 use native.Mathlib.Omega.{arith}
-use mathlib.Core.Logic.{⊎_elim}
 use mathlib.Core.Path.{sym, ◌∙◌}
 use lib.Dec.{ltb, eqb}
 use lib.ListN.{length}
@@ -11,7 +9,7 @@ use Rattle.float.proofs.Bools.{both}
 use Rattle.record.specs.Layout.{spot_width}
 use Rattle.store_slots.specs.Slots.{is_free}
 use Rattle.store_slots.proofs.SlotLaws.{part_slot, part_length}
-use Rattle.store_slots.proofs.SearchLaws.{Searched, searched_start, searched_here, searched_next, searched_end, loop_over}
+use Rattle.store_slots.proofs.SearchLaws.{searched_start, searched_here, searched_next, searched_end, loop_over}
 use Rattle.store_slots.proofs.search.first_free.Goals as goal
 use Rattle.store_slots.proofs.search.first_free.Goals.{then-is_free, else-is_free}
 
@@ -51,9 +49,10 @@ loop-i-preserved c =
     let inside = ltb-true l.i (length a.b.now / spot_width) test.0 in
     let yet = eqb-true l.free (length a.b.now / spot_width) test.1 in
     let own = part_slot a.b.now (l.i * spot_width) in
-    elim c.if-is_free.branch [ then-is_free w ↦ rw w.free-is (omega arith, searched_here is_free a.b.now l.i l.free l.invariant.1 yet inside (rw (← own) (sym c.is_free.ensures ∙ w.0.taken))))
-    (λ w. rw w.1 (omega arith, searched_next is_free a.b.now l.i l.free l.invariant.1 yet inside (rw (← own) (sym c.is_free.ensures ∙ w.0.left))))
-    c.if-is_free.branch
+    elim c.if-is_free.branch [
+      | then-is_free w ↦ rw w.free-is (omega arith, searched_here is_free a.b.now l.i l.free l.invariant.1 yet inside (rw (← own) (sym c.is_free.ensures ∙ w.if-is_free.true)))
+      | else-is_free w ↦ rw w.free-is (omega arith, searched_next is_free a.b.now l.i l.free l.invariant.1 yet inside (rw (← own) (sym c.is_free.ensures ∙ w.if-is_free.false)))
+    ]
 
 pub returns : goal.returns
 returns c =

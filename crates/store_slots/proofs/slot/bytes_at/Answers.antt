@@ -1,8 +1,7 @@
 -- `slot::bytes_at` meets its contract.
-use Prim.Native.Nat.{◌-◌, ◌≤◌}
 use native.Mathlib.Omega.{arith}
 use mathlib.Core.Path.{◌≡◌, refl, sym, ◌∙◌}
-use lib.ListN.{length, take, drop, length-set}
+use lib.ListN.{length-set}
 use lib.Seq.{take_all}
 use Rattle.record.specs.Layout.{spot_width}
 use Rattle.words.proofs.Parts.{filled_part}

@@ -1,11 +1,8 @@
 -- `slot::bytes_at` meets its contract.
 use Prim.Native.Nat.{◌-◌, ◌≤◌}
-use native.Mathlib.Omega.{arith}
-use mathlib.Core.Path.{◌≡◌, refl, sym, ◌∙◌}
-use lib.ListN.{length, take, drop, length-set}
-use lib.Seq.{take_all}
+use mathlib.Core.Path.{◌≡◌}
+use lib.ListN.{length, take, drop}
 use Rattle.record.specs.Layout.{spot_width}
-use Rattle.words.proofs.Parts.{filled_part}
 use Rattle.store_slots.proofs.slot.bytes_at.Given as goal
 
 abbrev pub invariant-loop-k : goal.invariant-loop-k

@@ -1,5 +1,4 @@
 -- `slot::is_bad` meets its contract.
-use borrow.Author.Rules.{rules}
 use Rattle.store_slots.specs.Slots.{bad_slot}
 use Rattle.store_slots.proofs.slot.is_bad.Goals as goal
 
