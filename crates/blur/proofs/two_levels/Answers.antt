@@ -21,10 +21,13 @@ loop-c-init c = (omega arith, refl, refl, stored-none, stored-none)
 pub column-requires : goal.column-requires
 column-requires c =
     let p = c.requires in
-    let l = c.loop-c in (
-      record { tall = omega (arith, c.if-rows-eq0.false); rows-most = p.plane.rows-most; cols-most = p.plane.cols-most; inside = c.loop-c-test.true; long = p.plane.long },
-      (p.radii, ((l.invariant.1, l.invariant.2), (omega (arith, p.plane.room_a, stored-length l.invariant.3), omega (arith, p.plane.room_b, stored-length l.invariant.4)))),
-    )
+    let l = c.loop-c in
+    record {
+      map = record { tall = omega (arith, c.if-rows-eq0.false); rows-most = p.plane.rows-most; cols-most = p.plane.cols-most; inside = c.loop-c-test.true; long = p.plane.long };
+      radii = p.radii;
+      a_len = (l.invariant.1, l.invariant.2);
+      cols_in_bounds = (omega (arith, p.plane.room_a, stored-length l.invariant.3), omega (arith, p.plane.room_b, stored-length l.invariant.4));
+    }
 
 pub overflow_add-c : goal.overflow_add-c
 overflow_add-c c = omega arith

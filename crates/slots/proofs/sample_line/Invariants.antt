@@ -10,7 +10,7 @@ use Rattle.columns.proofs.LineLaws.{written_none, written_next}
 use Rattle.slots.proofs.sample_line.Given as goal
 
 abbrev pub invariant-loop-i : goal.invariant-loop-i
-invariant-loop-i l = (l.i ≤ l.n) × Written nan l.initial.s l.s 0 l.i (λ l.i x. x ≡ stencil_at l.l (l.left + l.i) (l.mid + l.i) (l.right + l.i) l.square)
+invariant-loop-i l = (l.i ≤ l.n) × Written nan l.initial.s l.s 0 l.i (λ i x. x ≡ stencil_at l.l (l.left + i) (l.mid + i) (l.right + i) l.square)
 
 abbrev pub decreases-loop-i : goal.decreases-loop-i
 decreases-loop-i l = l.n - l.i

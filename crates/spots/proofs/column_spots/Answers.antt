@@ -32,10 +32,14 @@ marked_spots-m-requires c =
     let p = c.requires in
     let l = c.loop-i in
     let room = height-some a.s l.i (subst (λ (n : ℕ). l.i < n) p.n_value c.loop-i-test.true) in
-    let short = column_short a.s (four_of a.r0.now a.r1.now a.r2.now a.r3.now) (four_of a.c0.now a.c1.now a.c2.now a.c3.now) (a.s.position - 2) l.i in (
-      p.lent,
-      ((room.0, p.cols_bound.1), ((p.cols_bound.0, omega (arith, l.invariant.1.count, room.2, p.lent.rows-most, short)), ((omega arith, omega (arith, room.2)), p.ruled.ruled l.i c.loop-i-test.true))),
-    )
+    let short = column_short a.s (four_of a.r0.now a.r1.now a.r2.now a.r3.now) (four_of a.c0.now a.c1.now a.c2.now a.c3.now) (a.s.position - 2) l.i in
+    record {
+      lent = p.lent;
+      le_position = (room.0, p.cols_bound.1);
+      cols_bound = (p.cols_bound.0, omega (arith, l.invariant.1.count, room.2, p.lent.rows-most, short));
+      le_row = (omega arith, omega (arith, room.2));
+      position_value = p.ruled.ruled l.i c.loop-i-test.true;
+    }
 
 pub overflow_add-i-in-loop-i : goal.overflow_add-i-in-loop-i
 overflow_add-i-in-loop-i c = omega arith

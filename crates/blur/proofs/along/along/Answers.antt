@@ -24,10 +24,14 @@ pub step-t-requires : goal.step-t-requires
 step-t-requires c =
     let p = c.requires in
     let l = c.loop-t in
-    let w = c.weigh.ensures in (
-      p.padded,
-      (p.radius_bound, (c.loop-t-test.true, (omega (arith, p.rows_in_bounds, stored-length l.invariant.1, stored-length w), stored-float _ l.invariant.1 (omega (arith, p.rows_in_bounds, stored-length w))))),
-    )
+    let w = c.weigh.ensures in
+    record {
+      padded = p.padded;
+      radius_bound = p.radius_bound;
+      t_lt_radius = c.loop-t-test.true;
+      rows_in_bounds = omega (arith, p.rows_in_bounds, stored-length l.invariant.1, stored-length w);
+      held = stored-float _ l.invariant.1 (omega (arith, p.rows_in_bounds, stored-length w));
+    }
 
 pub loop-t-smaller : goal.loop-t-smaller
 loop-t-smaller c = omega (arith, c.step-t.ensures.more, c.step-t.ensures.most)

@@ -36,16 +36,13 @@ pixel-m-requires c =
     let a = c.args in
     let p = c.requires in
     let l = c.loop-k in
-    let m = maps_of a.l0.now a.l1.now a.l2.now a.l3.now a.f a.set a.th in (
-      p.sized,
-      (
-        record { top = omega arith; bottom = omega arith; left = omega arith; right = omega arith },
-        (
-          λ none. nothing-listed m (a.j + 4) (l.k + 4) (unmarked-nothing m a.j l.k p.j_bound (omega arith) p.block (mark-none a.marks.now (a.j % 254) (l.k + 4) (sym c.is_marked.ensures ∙ none))),
-          omega (arith, l.invariant.1.count, row_due-short m (a.j + 4) l.k),
-        ),
-      ),
-    )
+    let m = maps_of a.l0.now a.l1.now a.l2.now a.l3.now a.f a.set a.th in
+    record {
+      sized = p.sized;
+      within = record { top = omega arith; bottom = omega arith; left = omega arith; right = omega arith };
+      col_value = λ none. nothing-listed m (a.j + 4) (l.k + 4) (unmarked-nothing m a.j l.k p.j_bound (omega arith) p.block (mark-none a.marks.now (a.j % 254) (l.k + 4) (sym c.is_marked.ensures ∙ none)));
+      n_bound = omega (arith, l.invariant.1.count, row_due-short m (a.j + 4) l.k);
+    }
 
 pub overflow_add-k-in-loop-k-3 : goal.overflow_add-k-in-loop-k-3
 overflow_add-k-in-loop-k-3 c = omega arith

@@ -21,10 +21,11 @@ put_in-requires c =
     let all = c.requires in
     let a = c.args in
     let l = c.loop-i in
-    let count = c.count_of-count in (
-      rw l.invariant.1.0 (place_inside a.old l.i count.result _ (omega arith) (rw count.ensures all.enough)),
-      rw c.record_in.ensures (all.placed l.i (rw (← count.ensures) (omega arith))),
-    )
+    let count = c.count_of-count in
+    record {
+      old_in_bounds = rw l.invariant.1.0 (place_inside a.old l.i count.result _ (omega arith) (rw count.ensures all.enough));
+      placed = rw c.record_in.ensures (all.placed l.i (rw (← count.ensures) (omega arith)));
+    }
 
 pub overflow_add-i : goal.overflow_add-i
 overflow_add-i c = omega arith

@@ -32,14 +32,15 @@ turn-told-requires c =
     let l = c.loop-k in
     let g = l.invariant.2 in
     let below : l.k < tiles_of tile_step a.rows * tiles_of tile_step a.cols = omega (arith, l.invariant.1, c.loop-k-test.true) in
-    let at = turn_at (scene_maps a.set a.th a.rows a.cols a.octave a.l0.now a.l1.now a.l2.now a.l3.now) a.t0.now a.t1.now a.t2.now a.t3.now a.out.now l.k below in (
-      still_in c.requires g.same0 g.same1 g.same2 g.same3,
-      record {
+    let at = turn_at (scene_maps a.set a.th a.rows a.cols a.octave a.l0.now a.l1.now a.l2.now a.l3.now) a.t0.now a.t1.now a.t2.now a.t3.now a.out.now l.k below in
+    record {
+      scene_in = still_in c.requires g.same0 g.same1 g.same2 g.same3;
+      turn = record {
         down = rw c.tiles_of-across.ensures at.0;
         right = rw c.tiles_of-across.ensures at.1;
         lies = lies (scene_maps a.set a.th a.rows a.cols a.octave a.l0.now a.l1.now a.l2.now a.l3.now) a.t0.now a.t1.now a.t2.now a.t3.now a.out.now l.k l.done l.t0 l.t1 l.t2 l.t3 l.out l.invariant.2 below;
-      },
-    )
+      };
+    }
 
 pub shape_of-t0-in_default : goal.shape_of-t0-in_default
 shape_of-t0-in_default c = c.turn-told.ensures.same0 ∙ c.loop-k.invariant.2.same0

@@ -43,8 +43,8 @@ returns c =
     let few = c.requires.n_bound.0 in
     let left = c.fill_list.ensures in
     let right = c.fill_list-2.ensures in
-    let three = three_of (four_of a.r0.now a.r1.now a.r2.now a.r3.now) (four_of a.c0.now a.c1.now a.c2.now a.c3.now) a.u a.x a.y a.z a.t a.t14.sigmas in (
-      left-listed a.t14 a.th three a.n _ _ _ _ _ _ a.w.now _ _ few c.requires.n_bound.1 c.requires.slot (opened_plain a.w.now c.open_line.ensures) _ _ _ _ _ _ _ _ _ _ _
-          c.pack_line-m.ensures c.own_list-k.ensures (own_same a.t14 few left right) (before_stand a.t14 few left right) (after_stand a.t14 few left right) c.side_list-o.ensures c.accept_list.ensures,
+    let three = three_of (four_of a.r0.now a.r1.now a.r2.now a.r3.now) (four_of a.c0.now a.c1.now a.c2.now a.c3.now) a.u a.x a.y a.z a.t a.set.sigmas in (
+      left-listed a.set a.th three a.n _ _ _ _ _ _ a.w.now _ _ few c.requires.n_bound.1 c.requires.slot (opened_plain a.w.now c.open_line.ensures) _ _ _ _ _ _ _ _ _ _ _
+          c.pack_line-m.ensures c.own_list-k.ensures (own_same a.set few left right) (before_stand a.set few left right) (after_stand a.set few left right) c.side_list-o.ensures c.accept_list.ensures,
       right.long,
     )

@@ -28,13 +28,13 @@ column-any-requires c =
     let p = c.requires in
     let low = p.le_col.0 in
     let high = p.le_col.1 in
-    let inside = p.n_bound.0 in (
-      (omega arith, omega arith),
-      (
-        (reach_map _ s.j s.n s.col p.sized p.sized.long0 low high inside, reach_map _ s.j s.n s.col p.sized p.sized.long1 low high inside),
-        ((reach_map _ s.j s.n s.col p.sized p.sized.long2 low high inside, reach_map _ s.j s.n s.col p.sized p.sized.long3 low high inside), p.before.rings),
-      ),
-    )
+    let inside = p.n_bound.0 in
+    record {
+      n_bound = (omega arith, omega arith);
+      reach = (reach_map _ s.j s.n s.col p.sized p.sized.long0 low high inside, reach_map _ s.j s.n s.col p.sized p.sized.long1 low high inside);
+      reach_2 = (reach_map _ s.j s.n s.col p.sized p.sized.long2 low high inside, reach_map _ s.j s.n s.col p.sized p.sized.long3 low high inside);
+      rings = p.before.rings;
+    }
 
 pub returns-then-col-lt5 : goal.returns-then-col-lt5
 returns-then-col-lt5 c =
@@ -55,16 +55,13 @@ mark-requires c =
     let s = c.args in
     let p = c.requires in
     let m = maps_of s.l0.now s.l1.now s.l2.now s.l3.now s.f s.set s.th in
-    let filled = filled_map m s.j (s.n + 2) s.col (s.col % 3 * 260) c.column-any.result _ _ _ _ _ _ _ _ _ _ _ _ _ _ (omega arith) c.column-any.ensures in (
-      (omega arith, omega arith),
-      (
-        (omega arith, p.n_bound.1),
-        (
-          (omega (arith, p.sized.cols-most), p.before.long),
-          under-kept m s.j s.n s.col s.before c.column-any.result _ _ _ _ _ _ _ _ _ _ _ _ _ _ _ p.n_bound.1 p.le_col.0 p.before filled (omega (arith, c.if-col-lt5.false)),
-        ),
-      ),
-    )
+    let filled = filled_map m s.j (s.n + 2) s.col (s.col % 3 * 260) c.column-any.result _ _ _ _ _ _ _ _ _ _ _ _ _ _ (omega arith) c.column-any.ensures in
+    record {
+      x_bound = (omega arith, omega arith);
+      z_bound = (omega arith, p.n_bound.1);
+      col_bound = (omega (arith, p.sized.cols-most), p.before.long);
+      by_index = under-kept m s.j s.n s.col s.before c.column-any.result _ _ _ _ _ _ _ _ _ _ _ _ _ _ _ p.n_bound.1 p.le_col.0 p.before filled (omega (arith, c.if-col-lt5.false));
+    }
 
 pub returns : goal.returns
 returns c =
