@@ -1,13 +1,8 @@
 -- `check::check_line` meets its contract. The loop's invariant: the first i roots are known.
 use mathlib.Core.Path.{◌≡◌}
-use Prim.Native.Nat.{◌≤◌, ◌-◌}
 use native.Mathlib.Omega.{arith}
 use lib.Ieee.{nan}
-use Rattle.fit.specs.Cubic.{◌at◌}
-use Rattle.columns.specs.Line.{Written}
-use Rattle.columns.specs.Known.{Known}
 use Rattle.columns.proofs.LineLaws.{written_none, written_next}
-use borrow.Author.Rules.{rules}
 use Rattle.columns.proofs.check.check_line.Goals as goal
 
 pub loop-i-init : goal.loop-i-init

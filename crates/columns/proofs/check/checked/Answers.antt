@@ -4,7 +4,6 @@ use native.Mathlib.Nat.{le_of_lt}
 use lib.Dec.{T}
 use Rattle.float.proofs.Patterns.{not-nan_pattern}
 use Rattle.columns.proofs.KnownLaws.{known_by}
-use borrow.Author.Rules.{rules}
 use Rattle.columns.proofs.check.checked.Goals as goal
 
 pub float_from_bits-t : goal.float_from_bits-t

@@ -1,6 +1,5 @@
 -- `check::guess_line` meets its contract, that it is safe.
 use Prim.Native.Nat.{◌≤◌, ◌-◌}
-use borrow.Author.Rules.{rules}
 use Rattle.columns.proofs.check.guess_line.Given as goal
 
 abbrev pub invariant-loop-i : goal.invariant-loop-i

@@ -1,7 +1,6 @@
 -- `coef::coef_at` meets its contract.
 use Prim.Native.Nat.{◌+◌}
 use Rattle.columns.proofs.CoefLaws.{stored}
-use borrow.Author.Rules.{rules}
 use Rattle.columns.proofs.coef.coef_at.Goals as goal
 
 pub returns : goal.returns

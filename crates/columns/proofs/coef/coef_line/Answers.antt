@@ -1,9 +1,6 @@
 -- `coef::coef_line` meets its contract. The loop's invariant: the first i places are written.
 use mathlib.Core.Path.{◌≡◌}
-use Prim.Native.Nat.{◌≤◌, ◌-◌}
 use native.Mathlib.Omega.{arith}
-use borrow.Author.Rules.{rules}
-use Rattle.columns.specs.Coef.{Coefs}
 use Rattle.columns.proofs.CoefLaws.{coefs_none, coefs_more}
 use Rattle.columns.proofs.coef.coef_line.Goals as goal
 

@@ -1,6 +1,5 @@
 -- `coef::under_root` meets its contract.
 use Rattle.columns.specs.Coef.{under_root_of}
-use borrow.Author.Rules.{rules}
 use Rattle.columns.proofs.coef.under_root.Goals as goal
 
 pub returns : goal.returns

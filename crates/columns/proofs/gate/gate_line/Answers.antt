@@ -1,10 +1,7 @@
 -- `gate::gate_line` meets its contract. The loop's invariant: the first i words are written, and none exceeds `any`.
 use mathlib.Core.Path.{◌≡◌}
-use Prim.Native.Nat.{◌≤◌, ◌-◌}
 use native.Mathlib.Omega.{arith}
-use Rattle.columns.specs.Gate.{Words}
 use Rattle.columns.proofs.WordLaws.{words-none, words_more}
-use borrow.Author.Rules.{rules}
 use Rattle.columns.proofs.gate.gate_line.Goals as goal
 
 pub loop-i-init : goal.loop-i-init

@@ -1,7 +1,6 @@
 -- `gate::word` meets its contract.
 use native.Mathlib.Omega.{arith}
 use Rattle.columns.specs.Gate.{word_of}
-use borrow.Author.Rules.{rules}
 use Rattle.columns.proofs.gate.word.Goals as goal
 
 pub returns : goal.returns

@@ -1,10 +1,6 @@
 -- `sample::log_lines` meets its contract. The loop's invariant: the first i samples of each level are written.
-use mathlib.Core.Path.{◌≡◌}
 use Prim.Native.Nat.{◌≤◌, ◌-◌}
-use native.Mathlib.Omega.{arith}
-use borrow.Author.Rules.{rules}
 use Rattle.columns.specs.Sample.{Samples}
-use Rattle.columns.proofs.SampleLaws.{samples_none, samples_more}
 use Rattle.columns.proofs.sample.log_lines.Given as goal
 
 abbrev pub invariant-loop-i : goal.invariant-loop-i

@@ -1,7 +1,6 @@
 -- `sample::stencil` meets its contract.
 use mathlib.Core.Path.{refl}
 use Rattle.columns.specs.Sample.{stencil_at}
-use borrow.Author.Rules.{rules}
 use Rattle.columns.proofs.sample.stencil.Goals as goal
 
 pub returns : goal.returns

@@ -1,10 +1,7 @@
 -- `stat::stat_line` meets its contract. The loop's invariant: the first i points are written.
 use mathlib.Core.Path.{◌≡◌}
-use Prim.Native.Nat.{◌≤◌, ◌-◌}
 use native.Mathlib.Omega.{arith}
-use Rattle.columns.specs.Stat.{Points}
 use Rattle.columns.proofs.StatLaws.{points_none, points-more}
-use borrow.Author.Rules.{rules}
 use Rattle.columns.proofs.stat.stat_line.Goals as goal
 
 pub loop-i-init : goal.loop-i-init

@@ -2,7 +2,6 @@
 use Rattle.float.proofs.Floats.{nan_is}
 use Rattle.fit.specs.Cubic.{horner_of}
 use Rattle.columns.specs.Stat.{turn_at, point_of, height_of}
-use borrow.Author.Rules.{rules}
 use Rattle.columns.proofs.stat.turn.Goals as goal
 
 pub returns : goal.returns
