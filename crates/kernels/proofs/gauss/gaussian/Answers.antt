@@ -1,7 +1,6 @@
 -- `gauss::gaussian` meets its contract.
 use Rattle.kernels.specs.Kernel.{gaussian_of, single}
 use Rattle.kernels.proofs.Ceil.{ceil_most}
-use borrow.Author.Rules.{rules}
 use Rattle.kernels.proofs.gauss.gaussian.Goals as goal
 
 pub returns-then-sigma : goal.returns-then-sigma

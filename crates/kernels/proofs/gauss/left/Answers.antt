@@ -1,6 +1,5 @@
 -- `gauss::left` meets its contract.
 use Rattle.kernels.specs.Kernel.{left_of}
-use borrow.Author.Rules.{rules}
 use Rattle.kernels.proofs.gauss.left.Goals as goal
 
 pub returns : goal.returns

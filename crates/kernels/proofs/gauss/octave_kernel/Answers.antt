@@ -1,6 +1,5 @@
 -- `gauss::octave_kernel` meets its contract.
 use mathlib.Core.Path.{◌∙◌}
-use borrow.Author.Rules.{rules}
 use Rattle.kernels.specs.Kernel.{kernel_to}
 use Rattle.kernels.proofs.gauss.octave_kernel.Goals as goal
 

@@ -1,8 +1,6 @@
 -- `gauss::sum` meets its contract.
-use mathlib.Core.Path.{◌≡◌, refl}
-use Prim.Native.Nat.{◌+◌, ◌*◌, ◌≤◌, ◌-◌}
-use native.Mathlib.Numerals.{add-one}
-use native.Mathlib.Omega.{arith}
+use mathlib.Core.Path.{◌≡◌}
+use Prim.Native.Nat.{◌≤◌, ◌-◌}
 use Rattle.kernels.specs.Kernel.{sum_of}
 use Rattle.kernels.proofs.gauss.sum.Given as goal
 

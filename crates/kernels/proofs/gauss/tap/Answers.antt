@@ -1,7 +1,6 @@
 -- `gauss::tap` meets its contract.
 use borrow.Author.Tests.{le-leb, lt-leb}
 use Rattle.kernels.specs.Kernel.{tap_of}
-use borrow.Author.Rules.{rules}
 use Rattle.kernels.proofs.gauss.tap.Goals as goal
 
 pub returns-then-t-radius : goal.returns-then-t-radius

@@ -1,10 +1,10 @@
 -- `gauss::taps` meets its contract.
 use Rattle.kernels.specs.Kernel.{taps_of}
 use lib.Seq.{take-suc-set, take_all}
-use lib.ListN.{length, take, length-set}
+use lib.ListN.{length, length-set}
 use native.Mathlib.Omega.{arith}
 use native.Mathlib.Numerals.{add-one}
-use Prim.Native.Nat.{◌≤◌, ◌<◌, ◌-◌}
+use Prim.Native.Nat.{◌≤◌, ◌<◌}
 use mathlib.Core.Path.{◌≡◌, refl, sym, ◌∙◌}
 use Rattle.kernels.proofs.gauss.taps.Goals as goal
 

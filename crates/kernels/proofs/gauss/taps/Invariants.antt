@@ -1,11 +1,8 @@
 -- `gauss::taps` meets its contract.
 use Rattle.kernels.specs.Kernel.{taps_of}
-use lib.Seq.{take-suc-set, take_all}
-use lib.ListN.{length, take, length-set}
-use native.Mathlib.Omega.{arith}
-use native.Mathlib.Numerals.{add-one}
-use Prim.Native.Nat.{◌≤◌, ◌<◌, ◌-◌}
-use mathlib.Core.Path.{◌≡◌, refl, sym, ◌∙◌}
+use lib.ListN.{length, take}
+use Prim.Native.Nat.{◌≤◌, ◌-◌}
+use mathlib.Core.Path.{◌≡◌}
 use Rattle.kernels.proofs.gauss.taps.Given as goal
 
 abbrev pub invariant-loop-t : goal.invariant-loop-t

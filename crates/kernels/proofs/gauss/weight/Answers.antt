@@ -1,6 +1,5 @@
 -- `gauss::weight` meets its contract.
 use Rattle.kernels.specs.Kernel.{weight_of}
-use borrow.Author.Rules.{rules}
 use Rattle.kernels.proofs.gauss.weight.Goals as goal
 
 pub returns : goal.returns
