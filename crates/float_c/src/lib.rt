@@ -1,5 +1,6 @@
 // The float helpers for a C or Rust program to link, by the promises of float and whole alone.
 #![tactic(auto)]
+
 ghost use Rattle.std.specs.Prelude.{◌≡◌};
 ghost use Rattle.float.specs.Small.{finite, abs_of, min_of, max_of, clamp_of};
 ghost use Rattle.float.specs.Sqrt.{sqrt_of};
