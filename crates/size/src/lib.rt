@@ -1,6 +1,7 @@
 // The correction of a spot's sigma: from its four samples, the sigma that its fit gave and its polarity, a corrected sigma or why there is none.
 // Each function follows the published Rust's operations one by one, each rounded once; the definitions are in specs/.
 #![tactic(auto)]
+
 ghost use Rattle.std.specs.Prelude.{◌≡◌};
 ghost use Rattle.size.specs.Correct.{correct_of};
 

@@ -1,7 +1,6 @@
 -- `correct` meets its contract.
 use Rattle.size.specs.Correct.{answer_of, correct_by}
 use borrow.Author.Tests.{not-true, not-false}
-use borrow.Author.Rules.{rules}
 use Rattle.size.proofs.correct.Goals as goal
 
 pub returns-then-not-is_good : goal.returns-then-not-is_good

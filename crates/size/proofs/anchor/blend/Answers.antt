@@ -1,6 +1,5 @@
 -- `blend` meets its contract.
 use Rattle.size.specs.Correct.{blend_of}
-use borrow.Author.Rules.{rules}
 use Rattle.size.proofs.anchor.blend.Goals as goal
 
 pub returns-then-no_blend : goal.returns-then-no_blend

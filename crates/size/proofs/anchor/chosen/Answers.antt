@@ -1,6 +1,5 @@
 -- `chosen` meets its contract.
 use Rattle.size.specs.Correct.{chosen_of}
-use borrow.Author.Rules.{rules}
 use Rattle.size.proofs.anchor.chosen.Goals as goal
 
 pub returns-then-model-bounded : goal.returns-then-model-bounded

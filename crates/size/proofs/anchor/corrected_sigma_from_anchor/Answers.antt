@@ -1,6 +1,5 @@
 -- `corrected_sigma_from_anchor` meets its contract.
 use Rattle.size.specs.Correct.{corrected_by}
-use borrow.Author.Rules.{rules}
 use Rattle.size.proofs.anchor.corrected_sigma_from_anchor.Goals as goal
 
 pub returns-then-is_trusted : goal.returns-then-is_trusted

@@ -1,7 +1,6 @@
 -- `derivative` meets its contract.
 use Rattle.size.specs.Correct.{derivative_of}
 use mathlib.Core.Path.{refl}
-use borrow.Author.Rules.{rules}
 use Rattle.size.proofs.anchor.derivative.Goals as goal
 
 pub returns : goal.returns

@@ -1,6 +1,5 @@
 -- `gain_over` meets its contract.
 use Rattle.size.specs.Correct.{gain_of}
-use borrow.Author.Rules.{rules}
 use Rattle.size.proofs.anchor.gain_over.Goals as goal
 
 pub returns : goal.returns

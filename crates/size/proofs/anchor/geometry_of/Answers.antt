@@ -1,7 +1,6 @@
 -- `geometry_of` meets its contract.
 use mathlib.Core.Path.{refl}
 use Rattle.size.specs.Correct.{geometry_of}
-use borrow.Author.Rules.{rules}
 use Rattle.size.proofs.anchor.geometry_of.Goals as goal
 
 pub returns : goal.returns

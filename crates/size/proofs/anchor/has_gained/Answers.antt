@@ -1,6 +1,5 @@
 -- `has_gained` meets its contract.
 use Rattle.size.specs.Correct.{gained}
-use borrow.Author.Rules.{rules}
 use Rattle.size.proofs.anchor.has_gained.Goals as goal
 
 pub returns-then-is_max : goal.returns-then-is_max

@@ -1,6 +1,5 @@
 -- `is_accepted` meets its contract.
 use Rattle.size.specs.Correct.{accepted}
-use borrow.Author.Rules.{rules}
 use Rattle.size.proofs.anchor.is_accepted.Goals as goal
 
 pub returns : goal.returns

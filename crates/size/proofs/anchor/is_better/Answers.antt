@@ -1,6 +1,5 @@
 -- `is_better` meets its contract.
 use Rattle.size.specs.Correct.{better}
-use borrow.Author.Rules.{rules}
 use Rattle.size.proofs.anchor.is_better.Goals as goal
 
 pub returns : goal.returns

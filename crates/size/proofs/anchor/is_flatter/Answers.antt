@@ -1,6 +1,5 @@
 -- `is_flatter` meets its contract.
 use Rattle.size.specs.Correct.{flatter}
-use borrow.Author.Rules.{rules}
 use Rattle.size.proofs.anchor.is_flatter.Goals as goal
 
 pub returns : goal.returns

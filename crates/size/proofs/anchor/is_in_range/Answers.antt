@@ -1,6 +1,5 @@
 -- `is_in_range` meets its contract.
 use Rattle.size.specs.Correct.{in_range}
-use borrow.Author.Rules.{rules}
 use Rattle.size.proofs.anchor.is_in_range.Goals as goal
 
 pub returns : goal.returns

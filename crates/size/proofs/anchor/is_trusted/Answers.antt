@@ -1,6 +1,5 @@
 -- `is_trusted` meets its contract.
 use Rattle.size.specs.Correct.{trusted}
-use borrow.Author.Rules.{rules}
 use Rattle.size.proofs.anchor.is_trusted.Goals as goal
 
 pub returns : goal.returns

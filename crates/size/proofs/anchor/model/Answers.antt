@@ -1,6 +1,5 @@
 -- `model` meets its contract.
 use Rattle.size.specs.Correct.{model_of}
-use borrow.Author.Rules.{rules}
 use Rattle.size.proofs.anchor.model.Goals as goal
 
 pub returns : goal.returns

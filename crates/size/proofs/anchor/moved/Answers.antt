@@ -1,6 +1,5 @@
 -- `moved` meets its contract.
 use Rattle.size.specs.Correct.{moved_of}
-use borrow.Author.Rules.{rules}
 use Rattle.size.proofs.anchor.moved.Goals as goal
 
 pub returns-then-is_in_range : goal.returns-then-is_in_range

@@ -1,6 +1,5 @@
 -- `no_blend` meets its contract.
 use Rattle.size.specs.Correct.{no_blend}
-use borrow.Author.Rules.{rules}
 use Rattle.size.proofs.anchor.no_blend.Goals as goal
 
 pub returns : goal.returns

@@ -1,6 +1,5 @@
 -- `place_of` meets its contract.
 use Rattle.size.specs.Correct.{place_of}
-use borrow.Author.Rules.{rules}
 use Rattle.size.proofs.anchor.place_of.Goals as goal
 
 pub returns : goal.returns

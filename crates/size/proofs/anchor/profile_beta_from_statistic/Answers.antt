@@ -1,6 +1,5 @@
 -- `profile_beta_from_statistic` meets its contract.
 use Rattle.size.specs.Correct.{beta_of}
-use borrow.Author.Rules.{rules}
 use Rattle.size.proofs.anchor.profile_beta_from_statistic.Goals as goal
 
 pub returns-in-Value : goal.returns-in-Value

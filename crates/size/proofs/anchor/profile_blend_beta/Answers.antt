@@ -1,6 +1,5 @@
 -- `profile_blend_beta` meets its contract.
 use Rattle.size.specs.Correct.{blend_beta_by}
-use borrow.Author.Rules.{rules}
 use Rattle.size.proofs.anchor.profile_blend_beta.Goals as goal
 
 pub returns : goal.returns

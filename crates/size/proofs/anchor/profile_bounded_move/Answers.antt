@@ -1,6 +1,5 @@
 -- `profile_bounded_move` meets its contract.
 use Rattle.size.specs.Correct.{bounded_of}
-use borrow.Author.Rules.{rules}
 use Rattle.size.proofs.anchor.profile_bounded_move.Goals as goal
 
 pub returns : goal.returns

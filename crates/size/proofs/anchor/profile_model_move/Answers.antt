@@ -1,6 +1,5 @@
 -- `profile_model_move` meets its contract.
 use Rattle.size.specs.Correct.{model_move_of}
-use borrow.Author.Rules.{rules}
 use Rattle.size.proofs.anchor.profile_model_move.Goals as goal
 
 pub returns-then-w-is_finite : goal.returns-then-w-is_finite

@@ -1,6 +1,5 @@
 -- `proposal` meets its contract.
 use Rattle.size.specs.Correct.{proposal_of}
-use borrow.Author.Rules.{rules}
 use Rattle.size.proofs.anchor.proposal.Goals as goal
 
 pub returns-then-is_finite : goal.returns-then-is_finite

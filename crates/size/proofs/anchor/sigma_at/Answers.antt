@@ -1,6 +1,5 @@
 -- `sigma_at` meets its contract.
 use Rattle.size.specs.Correct.{sigma_at}
-use borrow.Author.Rules.{rules}
 use Rattle.size.proofs.anchor.sigma_at.Goals as goal
 
 pub returns : goal.returns

@@ -1,6 +1,5 @@
 -- `signed_root` meets its contract.
 use Rattle.size.specs.Correct.{signed_root}
-use borrow.Author.Rules.{rules}
 use Rattle.size.proofs.anchor.signed_root.Goals as goal
 
 pub returns-then-c : goal.returns-then-c

@@ -1,6 +1,5 @@
 -- `weight` meets its contract.
 use Rattle.size.specs.Correct.{weight_of}
-use borrow.Author.Rules.{rules}
 use Rattle.size.proofs.anchor.weight.Goals as goal
 
 pub returns : goal.returns
