@@ -1,5 +1,6 @@
 // Two levels of a raw map at once, by two kernels: the pair sums of the first pass are made once for both.
 #![tactic(auto)]
+
 mod across; // across.rt: the first pass, across columns, for two kernels at once
 mod along; // along.rt: the second pass, along a line
 

@@ -1,7 +1,6 @@
 -- `column` meets its contract.
 use native.Mathlib.Omega.{arith}
 use Rattle.blur.proofs.PassLaws.{stored_same, column_inside, map-most, column_is}
-use borrow.Author.Rules.{rules}
 use Rattle.blur.proofs.column.Goals as goal
 
 pub overflow_mul-at : goal.overflow_mul-at

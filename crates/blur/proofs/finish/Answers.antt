@@ -1,6 +1,5 @@
 -- `finish` meets its contract.
 use Rattle.blur.proofs.PassLaws.{stored_same, along_kept}
-use borrow.Author.Rules.{rules}
 use Rattle.blur.proofs.finish.Goals as goal
 
 pub returns : goal.returns

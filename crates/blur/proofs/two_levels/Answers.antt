@@ -2,9 +2,9 @@
 use native.Mathlib.Omega.{arith}
 use mathlib.Core.Path.{◌≡◌, refl}
 use native.Mathlib.Numerals.{add-one}
-use Prim.Native.Nat.{◌+◌, ◌*◌, ◌-◌, ◌≤◌}
+use Prim.Native.Nat.{◌+◌, ◌*◌}
 use lib.ListN.{length}
-use Rattle.grid.specs.Grid.{columns_of, Stored}
+use Rattle.grid.specs.Grid.{columns_of}
 use Rattle.grid.proofs.GridLaws.{length-columns, columns-none}
 use Rattle.grid.proofs.StoredLaws.{stored-none, stored-append, stored-length}
 use Rattle.blur.specs.Blur.{level_at, level_of}

@@ -1,13 +1,9 @@
 -- `two_levels` meets its contract. The loop's invariant: the first c columns of both are stored.
-use native.Mathlib.Omega.{arith}
-use mathlib.Core.Path.{◌≡◌, refl}
-use native.Mathlib.Numerals.{add-one}
-use Prim.Native.Nat.{◌+◌, ◌*◌, ◌-◌, ◌≤◌}
+use mathlib.Core.Path.{◌≡◌}
+use Prim.Native.Nat.{◌-◌, ◌≤◌}
 use lib.ListN.{length}
 use Rattle.grid.specs.Grid.{columns_of, Stored}
-use Rattle.grid.proofs.GridLaws.{length-columns, columns-none}
-use Rattle.grid.proofs.StoredLaws.{stored-none, stored-append, stored-length}
-use Rattle.blur.specs.Blur.{level_at, level_of}
+use Rattle.blur.specs.Blur.{level_at}
 use Rattle.blur.proofs.two_levels.Given as goal
 
 abbrev pub invariant-loop-c : goal.invariant-loop-c

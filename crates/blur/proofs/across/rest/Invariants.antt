@@ -1,8 +1,5 @@
 -- `across::rest` meets its contract. The loop's invariant: the line holds the pass by the taps up to s.
-use native.Mathlib.Omega.{arith}
-use mathlib.Core.Path.{◌≡◌}
 use Prim.Native.Nat.{◌-◌, ◌≤◌}
-use Rattle.blur.specs.Blur.{across_at}
 use Rattle.blur.specs.Passes.{Holds, columns}
 use Rattle.blur.proofs.across.rest.Given as goal
 

@@ -1,9 +1,5 @@
 -- `across::shared` meets its contract. The loop's invariant: both lines hold their passes by the taps up to t.
 use native.Mathlib.Omega.{arith}
-use mathlib.Core.Path.{◌≡◌}
-use Prim.Native.Nat.{◌-◌, ◌≤◌, min}
-use borrow.Author.Rules.{rules}
-use Rattle.blur.specs.Passes.{Holds, columns}
 use Rattle.blur.proofs.PassLaws.{line-holds, column_inside, map-most, across-first}
 use Rattle.blur.proofs.across.shared.Goals as goal
 

@@ -1,7 +1,6 @@
 -- `across::step` meets its contract.
 use native.Mathlib.Omega.{arith}
 use Rattle.blur.proofs.PassLaws.{line-holds, lower-inside, upper_inside, map-most, column_place, across-more, across_two}
-use borrow.Author.Rules.{rules}
 use Rattle.blur.proofs.across.step.Goals as goal
 
 pub overflow_mul-lo : goal.overflow_mul-lo

@@ -1,7 +1,6 @@
 -- `across::step_both` meets its contract.
 use native.Mathlib.Omega.{arith}
 use Rattle.blur.proofs.PassLaws.{line-holds, lower-inside, upper_inside, map-most, column_place, across_two}
-use borrow.Author.Rules.{rules}
 use Rattle.blur.proofs.across.step_both.Goals as goal
 
 pub overflow_mul-lo : goal.overflow_mul-lo

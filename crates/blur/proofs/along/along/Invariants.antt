@@ -1,11 +1,7 @@
 -- `along::along` meets its contract. The loop's invariant: the pass by the taps up to t is stored.
-use native.Mathlib.Omega.{arith}
-use mathlib.Core.Path.{◌≡◌, ◌∙◌}
 use Prim.Native.Nat.{◌-◌, ◌≤◌}
 use Rattle.grid.specs.Grid.{list_of, Stored}
-use Rattle.grid.proofs.StoredLaws.{stored-length, stored-float, stored_self}
 use Rattle.blur.specs.Passes.{along_to}
-use Rattle.blur.proofs.PassLaws.{stored_over, along_first}
 use Rattle.blur.proofs.along.along.Given as goal
 
 abbrev pub invariant-loop-t : goal.invariant-loop-t

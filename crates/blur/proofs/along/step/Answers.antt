@@ -1,7 +1,6 @@
 -- `along::step` meets its contract.
 use native.Mathlib.Omega.{arith}
 use Rattle.blur.proofs.PassLaws.{stored_same, along_more, along_two, along_four}
-use borrow.Author.Rules.{rules}
 use Rattle.blur.proofs.along.step.Goals as goal
 
 pub returns-then-v-k : goal.returns-then-v-k
