@@ -1,5 +1,6 @@
 // A spot's size and home pixel, and its sized record: its own bytes, then these.
 #![tactic(auto)]
+
 ghost use Rattle.std.specs.Prelude.{◌≡◌, ◌+◌, ◌<◌, ◌≤◌, ◌^◌, length};
 ghost use Rattle.std.proofs.lemmas.List.Edits.{sets};
 ghost use Rattle.sized.specs.Sized.{sized_width, old_sized_width, given_sigma, accepted_of, missing_of, tail_bytes, home_of, size_of, sized_bytes, old_sized_bytes, Placed};

@@ -1,5 +1,4 @@
 -- `accepted_of` meets its contract.
-use borrow.Author.Rules.{rules}
 use Rattle.sized.specs.Sized.{accepted_of}
 use Rattle.sized.proofs.accepted_of.Goals as goal
 

@@ -1,5 +1,4 @@
 -- `given_sigma` meets its contract.
-use borrow.Author.Rules.{rules}
 use Rattle.sized.specs.Sized.{given_sigma}
 use Rattle.sized.proofs.given_sigma.Goals as goal
 

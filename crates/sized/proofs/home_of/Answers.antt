@@ -1,5 +1,4 @@
 -- `home_of` meets its contract.
-use borrow.Author.Rules.{rules}
 use Rattle.sized.specs.Sized.{home_of}
 use Rattle.sized.proofs.home_of.Goals as goal
 

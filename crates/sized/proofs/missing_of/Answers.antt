@@ -1,5 +1,4 @@
 -- `missing_of` meets its contract.
-use borrow.Author.Rules.{rules}
 use Rattle.sized.specs.Sized.{missing_of}
 use Rattle.sized.proofs.missing_of.Goals as goal
 

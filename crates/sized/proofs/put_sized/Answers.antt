@@ -1,5 +1,4 @@
 -- `put_sized` meets its contract.
-use borrow.Author.Rules.{rules}
 use native.Mathlib.Omega.{arith}
 use Rattle.sized.proofs.SizedLaws.{sized_parts}
 use Rattle.sized.proofs.put_sized.Goals as goal
@@ -10,4 +9,4 @@ put_tail-requires c = record { at_in_bounds = omega arith; row_bound = rw c.home
 pub returns : goal.returns
 returns c =
     let a = c.args in
-    sized_parts _ a.at a.set a.r c.type_size.ensures c.home_of-home.ensures c.put_record.ensures c.put_tail.ensures
+    sized_parts _ a.at a.set a.r c.size_of-size.ensures c.home_of-home.ensures c.put_record.ensures c.put_tail.ensures

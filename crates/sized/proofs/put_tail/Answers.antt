@@ -1,5 +1,4 @@
 -- `put_tail` meets its contract.
-use borrow.Author.Rules.{rules}
 use Rattle.sized.proofs.SizedLaws.{tail_parts}
 use Rattle.sized.proofs.put_tail.Goals as goal
 

@@ -1,5 +1,4 @@
 -- `size_of` meets its contract.
-use borrow.Author.Rules.{rules}
 use Rattle.sized.specs.Sized.{size_of}
 use Rattle.sized.proofs.size_of.Goals as goal
 
