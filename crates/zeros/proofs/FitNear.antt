@@ -22,9 +22,9 @@ use Rattle.zeros.proofs.NearLaws.{near_sym, near_trans, near, mul~, lt~, cond~, 
 
 -- ---- the envelope
 
-put_low : {t u : Bool} (v s : Float) {a b : Envelope} → t ≡ u → EnvelopeNear a b → EnvelopeNear (put_low t v s a) (put_low u v s b)
+put_low_lem : {t u : Bool} (v s : Float) {a b : Envelope} → t ≡ u → EnvelopeNear a b → EnvelopeNear (put_low t v s a) (put_low u v s b)
 unfolding put_low
-put_low {t = t} v s e h = rw (← e) (go t h) where
+put_low_lem {t = t} v s e h = rw (← e) (go t h) where
   go : (t : Bool) {a b : Envelope} → EnvelopeNear a b → EnvelopeNear (put_low t v s a) (put_low t v s b)
   go true h = record { emin = same; emax = h.emax; smin = refl; smax = h.smax }
   go false h = h
@@ -38,7 +38,7 @@ put-high {t = t} v s e h = rw (← e) (go t h) where
 
 turn~ : (k : List Float) (s : Float) (ok is_min : Bool) {a b : Envelope} → EnvelopeNear a b → EnvelopeNear (turn_of k s ok is_min a) (turn_of k s ok is_min b)
 unfolding turn_of
-turn~ k s ok is_min h = put-high _ s (rw (lt~ h.emax (same {x = horner_of k s}))) (put_low _ s (rw (lt~ (same {x = horner_of k s}) h.emin)) h)
+turn~ k s ok is_min h = put-high _ s (rw (lt~ h.emax (same {x = horner_of k s}))) (put_low_lem _ s (rw (lt~ (same {x = horner_of k s}) h.emin)) h)
 
 turns~ : (k g : List Float) (root : Float) {a b : Envelope} → EnvelopeNear a b → EnvelopeNear (turns_of k g root a) (turns_of k g root b)
 unfolding turns_of
