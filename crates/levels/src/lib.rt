@@ -1,5 +1,6 @@
 // The four levels of a raw map.
 #![tactic(auto)]
+
 mod checks; // checks.rt: the checks, in their order
 
 ghost use Rattle.std.specs.Prelude.{◌≡◌, ◌+◌, ◌<◌, length};

@@ -1,5 +1,6 @@
 // A day's spots in a lent buffer: slots of one record each, free ones marked. Clear, add, strike, close up.
 #![tactic(auto)]
+
 mod checks; // checks.rt: each call's checks, in its order
 mod moving; // moving.rt: slots freed from a place on, live ones moved down
 

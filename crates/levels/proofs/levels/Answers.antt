@@ -3,7 +3,6 @@ use native.Mathlib.Omega.{arith}
 use mathlib.Core.Path.{sym, ◌∙◌}
 use Rattle.levels.specs.Levels.{levels_of, made}
 use Rattle.levels.proofs.LevelsLaws.{checks_passed}
-use borrow.Author.Rules.{rules}
 use Rattle.levels.proofs.levels.Goals as goal
 
 pub two-requires : goal.two-requires

@@ -2,7 +2,6 @@
 use Prim.Native.Nat.{◌+◌}
 use Rattle.kernels.proofs.Radii.{radius_within}
 use Rattle.levels.proofs.LevelsLaws.{placed-is}
-use borrow.Author.Rules.{rules}
 use Rattle.levels.proofs.two.Goals as goal
 
 pub two_levels-requires : goal.two_levels-requires

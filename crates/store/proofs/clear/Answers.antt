@@ -1,5 +1,4 @@
 -- `clear` meets its contract.
-use borrow.Author.Rules.{rules}
 use Rattle.store.proofs.CallLaws.{clear-done, clear-refused}
 use Rattle.store.proofs.clear.Goals as goal
 

@@ -1,5 +1,4 @@
 -- `close_up` meets its contract.
-use borrow.Author.Rules.{rules}
 use mathlib.Core.Path.{sym, ◌∙◌}
 use Rattle.store.specs.Store.{CloseUp}
 use Rattle.store.proofs.StoreLaws.{close_passed, call_refused}

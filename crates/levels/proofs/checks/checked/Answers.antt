@@ -5,7 +5,6 @@ use Rattle.tables.specs.Refusal.{unless, first_of}
 use Rattle.tables.proofs.RefusalLaws.{sides_most}
 use Rattle.grid.proofs.GridLaws.{area}
 use Rattle.levels.specs.Levels.{levels_checks}
-use borrow.Author.Rules.{rules}
 use Rattle.levels.proofs.checks.checked.Goals as goal
 
 pub returns-then-rows-cols : goal.returns-then-rows-cols

@@ -1,5 +1,4 @@
 -- `checks::add` meets its contract.
-use borrow.Author.Rules.{rules}
 use borrow.Author.Tests.{le-leb, lt-leb, not-true, not-false}
 use mathlib.Core.Path.{sym, ◌∙◌}
 use Rattle.tables.specs.Refusal.{first_of, unless}

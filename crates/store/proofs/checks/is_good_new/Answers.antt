@@ -1,5 +1,4 @@
 -- `checks::is_good_new` meets its contract.
-use borrow.Author.Rules.{rules}
 use borrow.Author.Tests.{eq-eqb, ne_eqb}
 use Rattle.store.specs.Store.{good_new}
 use Rattle.store.proofs.checks.is_good_new.Goals as goal

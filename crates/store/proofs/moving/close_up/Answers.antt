@@ -1,10 +1,7 @@
 -- `moving::close_up` meets its contract.
-use Prim.Native.Nat.{◌-◌, ◌/◌, ◌≤◌}
 use native.Mathlib.Omega.{arith}
 use mathlib.Core.Path.{◌∙◌}
-use lib.ListN.{length}
-use Rattle.record.specs.Layout.{spot_width}
-use Rattle.store.proofs.MovingLaws.{Packed, packed_start, packed-next, packed_end}
+use Rattle.store.proofs.MovingLaws.{packed_start, packed-next, packed_end}
 use Rattle.store.proofs.moving.close_up.Goals as goal
 
 pub loop-i-init : goal.loop-i-init
@@ -31,7 +28,7 @@ pub free_from-requires : goal.free_from-requires
 free_from-requires c = rw c.loop-i.invariant.1.long c.requires
 
 pub shape_of-b : goal.shape_of-b
-shape_of-b c = omega (arith, c.free_from.auto.0, c.loop-i.invariant.1.long)
+shape_of-b c = omega (arith, c.free_from.auto.b, c.loop-i.invariant.1.long)
 
 pub returns : goal.returns
 returns c =

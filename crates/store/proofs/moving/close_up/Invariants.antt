@@ -1,10 +1,8 @@
 -- `moving::close_up` meets its contract.
 use Prim.Native.Nat.{◌-◌, ◌/◌, ◌≤◌}
-use native.Mathlib.Omega.{arith}
-use mathlib.Core.Path.{◌∙◌}
 use lib.ListN.{length}
 use Rattle.record.specs.Layout.{spot_width}
-use Rattle.store.proofs.MovingLaws.{Packed, packed_start, packed-next, packed_end}
+use Rattle.store.proofs.MovingLaws.{Packed}
 use Rattle.store.proofs.moving.close_up.Given as goal
 
 abbrev pub invariant-loop-i : goal.invariant-loop-i

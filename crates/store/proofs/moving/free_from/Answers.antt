@@ -1,12 +1,11 @@
 -- `moving::free_from` meets its contract.
-use borrow.Author.Rules.{rules}
-use Prim.Native.Nat.{◌-◌, ◌*◌, ◌/◌}
+use Prim.Native.Nat.{◌*◌}
 use native.Mathlib.Omega.{arith}
-use mathlib.Core.Path.{◌≡◌, refl, sym, ap, ◌∙◌}
+use mathlib.Core.Path.{refl, sym, ap, ◌∙◌}
 use lib.ListN.{length}
 use lib.Seq.{sets, take_all}
 use Rattle.record.specs.Layout.{spot_width}
-use Rattle.store.specs.Steps.{Whole, freed}
+use Rattle.store.specs.Steps.{Whole}
 use Rattle.store_slots.proofs.SlotLaws.{length-free}
 use Rattle.store.proofs.MovingLaws.{freed-next, freed_end}
 use Rattle.store.proofs.moving.free_from.Goals as goal
@@ -36,7 +35,7 @@ loop-k-preserved c =
     let free = c.free_bytes-free.ensures in
     let bytes = take_all spot_width _ (omega (arith, ap length free, length-free)) ∙ free in
     let stored = c.put_first.ensures ∙ ap (sets l.b (l.k * spot_width)) bytes in
-    (omega (arith, c.put_first.auto.0, l.invariant.0), l.invariant.1 ∙ sym (freed-next l.b l.k whole (omega (arith, l.invariant.0))) ∙ rw stored)
+    (omega (arith, c.put_first.auto.out, l.invariant.0), l.invariant.1 ∙ sym (freed-next l.b l.k whole (omega (arith, l.invariant.0))) ∙ rw stored)
 
 pub shape_of-b : goal.shape_of-b
 shape_of-b c = c.loop-k.invariant.0

@@ -1,14 +1,9 @@
 -- `moving::free_from` meets its contract.
-use borrow.Author.Rules.{rules}
-use Prim.Native.Nat.{◌-◌, ◌*◌, ◌/◌}
-use native.Mathlib.Omega.{arith}
-use mathlib.Core.Path.{◌≡◌, refl, sym, ap, ◌∙◌}
+use Prim.Native.Nat.{◌-◌, ◌/◌}
+use mathlib.Core.Path.{◌≡◌}
 use lib.ListN.{length}
-use lib.Seq.{sets, take_all}
 use Rattle.record.specs.Layout.{spot_width}
-use Rattle.store.specs.Steps.{Whole, freed}
-use Rattle.store_slots.proofs.SlotLaws.{length-free}
-use Rattle.store.proofs.MovingLaws.{freed-next, freed_end}
+use Rattle.store.specs.Steps.{freed}
 use Rattle.store.proofs.moving.free_from.Given as goal
 
 abbrev pub invariant-loop-k : goal.invariant-loop-k
