@@ -1,5 +1,6 @@
 // Bytes compared.
 #![tactic(auto)]
+
 ghost use Rattle.std.specs.Prelude.{◌≡◌, length};
 ghost use Rattle.alike.specs.Same.{same};
 

@@ -1,5 +1,6 @@
 // Detection's checks: sides, levels, octave, thresholds and set, in their order.
 #![tactic(auto)]
+
 ghost use Rattle.std.specs.Prelude.{◌≡◌};
 ghost use Rattle.tables.specs.Refusal.{first_of, sides_check, octave_check};
 ghost use Rattle.checks.specs.Checks.{levels_check, detect_checks};

@@ -1,5 +1,6 @@
 // What the faces share, and the check of a set's record.
 #![tactic(auto)]
+
 ghost use Rattle.std.specs.Prelude.{◌≡◌};
 ghost use Rattle.tables.specs.Refusal.{read_set_of};
 ghost use Rattle.face.specs.Face.{check_face};

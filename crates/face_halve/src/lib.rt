@@ -1,5 +1,6 @@
 // The face of the pyramid's helpers: downsample's answer as a number and two sides.
 #![tactic(auto)]
+
 ghost use Rattle.std.specs.Prelude.{◌≡◌};
 ghost use Rattle.pyramid.specs.Pyramid.{octave_count_of};
 ghost use Rattle.face_halve.specs.Face.{halved_left, downsample_face};

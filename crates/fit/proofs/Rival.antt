@@ -11,7 +11,7 @@ use Rattle.float.proofs.Order.{lt-nan}
 use Rattle.float.proofs.Signs.{neg-neg, lt-neg}
 use Rattle.float.proofs.One.{one_times, minus_one_times}
 use Rattle.float.proofs.Denied.{le-number, max-reaches-left, max-reaches-right, max_keeps_left, max-number-left, max-number-right, max-fits}
-use Rattle.fit.specs.Cubic.{◌at◌, horner_of}
+use Rattle.fit.specs.Cubic.{horner_of}
 use Rattle.fit.specs.Prims.{ours}
 use Rattle.fit.specs.Band.{finite_cubic, sign_of, stationary_of, better_by, extreme_by, extreme_of}
 use Rattle.fit.specs.declared.Stationary.{Stationary}

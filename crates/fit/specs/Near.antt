@@ -1,5 +1,5 @@
 -- Two floats that differ at most in the sign of a zero. Definitions only.
-use Rattle.std.specs.Prelude.{ℕ, Bool, pos, Float}
+use Rattle.std.specs.Prelude.{Bool, pos, Float}
 use Rattle.std.specs.Float.{fin}
 
 pub data Near : Float → Float → Type 0 where

@@ -1,6 +1,7 @@
 // One pixel's numbers: its cubics, its envelope, a cubic's extreme over a band. Each function follows the published Rust's operations
 // one by one, each rounded once; the definitions are in specs/.
 #![tactic(auto)]
+
 mod points;
 pub mod reference;
 pub mod scale_fit;

@@ -1,6 +1,7 @@
 // The cubics at the places beside candidates, gathered into a slot of the rings: the samples of one level after the other, then the cubics by them, four places
 // of a column at once, which the machine takes in one step. The column after a place may lie in slices of its own.
 #![tactic(auto)]
+
 ghost use Rattle.std.specs.Prelude.{◌≡◌, ◌+◌, ◌%◌, ◌≤◌, ◌<◌, length};
 ghost use Rattle.std.specs.Float.{nan};
 ghost use Rattle.float.specs.Num.{◌⊕◌, ◌⊖◌};

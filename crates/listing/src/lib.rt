@@ -1,5 +1,6 @@
 // What a pixel lists, laid into a buffer.
 #![tactic(auto)]
+
 ghost use Rattle.std.specs.Prelude.{◌+◌, ◌≤◌, ◌<◌, ◌^◌};
 ghost use Rattle.record.specs.Layout.{Laid};
 ghost use Rattle.pixel.specs.Listed.{listed, both_listed};

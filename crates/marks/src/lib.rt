@@ -1,5 +1,6 @@
 // The marks of a block of up to 256 rows and 4,096 columns, a bit for each pixel: eight rows of a column to a byte.
 #![tactic(auto)]
+
 ghost use Rattle.std.specs.Prelude.{◌≡◌, ℕ, ◌+◌, ◌*◌, ◌/◌, ◌%◌, ◌^◌, ◌≤◌, ◌<◌, eqb, length, get_or};
 ghost use Rattle.marks.specs.Marks.{mark_at, Put};
 

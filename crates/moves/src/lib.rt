@@ -1,5 +1,6 @@
 // How far a spot is moved from its pixel: what passes, and how it is kept.
 #![tactic(auto)]
+
 ghost use Rattle.std.specs.Prelude.{◌≡◌};
 ghost use Rattle.moves.specs.Moves.{nearby, kept_of};
 

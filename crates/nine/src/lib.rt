@@ -1,6 +1,7 @@
 // The samples at the nine places around a pixel, from the offsets at which five columns lie. They are read level by level and column by column: columns
 // often lie so far apart that they push each other out of the nearest cache, and then what is read again is read at once.
 #![tactic(auto)]
+
 ghost use Rattle.std.specs.Prelude.{◌≡◌, ◌+◌, ◌*◌, ◌≤◌, ◌<◌, length};
 ghost use Rattle.float.specs.Num.{◌⊗◌};
 ghost use Rattle.samples.specs.Level.{samples_of, nine_of, Within, Sized};

@@ -1,5 +1,6 @@
 // The judgement of one pixel: from the samples at its nine places to the record it lists, if any. It knows nothing of maps.
 #![tactic(auto)]
+
 pub mod gate;
 pub mod judge;
 pub mod ring;

@@ -1,6 +1,7 @@
 // The profile statistic of four samples: how far the points that they give lie from a rising line, or why there is none.
 // Each function follows the published Rust's operations one by one, each rounded once; the definitions are in specs/.
 #![tactic(auto)]
+
 ghost use Rattle.std.specs.Prelude.{◌≡◌};
 ghost use Rattle.profile.specs.Four.{energy_of};
 ghost use Rattle.profile.specs.Profile.{residual_of, usable_samples, usable_roots, usable_line, usable_energy, ratio_of, fitted_of, scaled_of, statistic_of};

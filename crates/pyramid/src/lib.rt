@@ -1,5 +1,6 @@
 // The pyramid's helpers: how many octaves a map has, and the level that the next octave starts from.
 #![tactic(auto)]
+
 mod octaves; // octaves.rt: the octaves of a shortest side
 mod halve; // halve.rt: every second pixel of every second column, and the refusals
 

@@ -1,6 +1,7 @@
 // The square root of an f32 by a guess, for loops that take many. `sqrt` has no `requires`, and its `ensures` gives the result as one value of the
 // argument, by the definition of float that `float::sqrt` has. Its two steps serve lines of many values by themselves.
 #![tactic(auto)]
+
 mod guessed;
 
 pub use guessed::{guess_of, sqrt, tried};

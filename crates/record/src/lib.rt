@@ -1,5 +1,6 @@
 // A spot's record: its values, its bytes, and when a record is readable. The layout stands here and nowhere else.
 #![tactic(auto)]
+
 ghost use Rattle.std.specs.Prelude.{◌≡◌, ◌+◌, ◌<◌, ◌≤◌, ◌^◌, length};
 ghost use Rattle.std.proofs.lemmas.List.Edits.{sets};
 ghost use Rattle.record.specs.Layout.{spot_width, old_width, floats4, old_bytes, record_bytes, put, record_with, record_from, old_from};

@@ -1,5 +1,6 @@
 // The ring of a feed: its state, what is read of the ring and of the columns that are given, and how a column is stored.
 #![tactic(auto)]
+
 ghost use Rattle.std.specs.Prelude.{◌≡◌, cond, ◌+◌, ◌-◌, ◌*◌, ◌≤◌, ◌<◌, length};
 ghost use Rattle.std.proofs.lemmas.List.Edits.{sets};
 ghost use Rattle.samples.specs.Level.{nine_of};

@@ -8,7 +8,7 @@ use Rattle.float.specs.Num.{f0, f1}
 use Rattle.float.proofs.Bools.{neither}
 use Rattle.tables.specs.declared.Set.{Set}
 use Rattle.tables.specs.declared.Thresholds.{Thresholds}
-use Rattle.fit.specs.Cubic.{◌at◌, coeffs_of}
+use Rattle.fit.specs.Cubic.{coeffs_of}
 use Rattle.fit.specs.Envelope.{within}
 use Rattle.fit.specs.Band.{sign_of}
 use Rattle.fit.specs.Owned.{owned_by}

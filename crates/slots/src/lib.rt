@@ -1,5 +1,6 @@
 // The lines of a column of four levels, from its own offset and those of the columns beside it: a map and a ring of columns share them.
 #![tactic(auto)]
+
 ghost use Rattle.std.specs.Prelude.{◌≡◌, ◌+◌, ◌≤◌, length};
 ghost use Rattle.std.specs.Float.{nan};
 ghost use Rattle.columns.specs.Line.{Written};

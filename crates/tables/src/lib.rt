@@ -1,5 +1,6 @@
 // The set of tables and the thresholds, by value; when a set is good, and whether a threshold is no number; a set's reader from a record of 528 bytes.
 #![tactic(auto)]
+
 ghost use Rattle.std.specs.Prelude.{◌≡◌};
 ghost use Rattle.tables.specs.Set.{good};
 ghost use Rattle.tables.specs.Refusal.{any_nan, read_set_of};

@@ -1,5 +1,6 @@
 // The tiles along a side of a scene: how many they are, where each begins and how long it is.
 #![tactic(auto)]
+
 pub mod copy; // copy.rt: a tile's copy of a level
 
 ghost use Rattle.std.specs.Prelude.{◌≡◌, ◌*◌, ◌≤◌};

@@ -1,11 +1,9 @@
 -- `is_same` meets its contract: with what is left to compare, what was found so far decides.
-use native.Mathlib.Omega.{arith}
 use Prim.Native.Nat.{◌-◌, ◌≤◌}
 use mathlib.Core.Bool.{◌&&◌}
-use mathlib.Core.Path.{◌≡◌, refl, ◌∙◌, sym}
+use mathlib.Core.Path.{◌≡◌}
 use lib.ListN.{length, drop}
 use Rattle.alike.specs.Same.{same}
-use Rattle.alike.proofs.SameLaws.{same_next, same_ends}
 use Rattle.alike.proofs.is_same.Given as goal
 
 abbrev pub invariant-loop-k : goal.invariant-loop-k

@@ -6,7 +6,6 @@ use borrow.Author.Tests.{not-true, not-false}
 use Rattle.tables.specs.Refusal.{unless, first_of}
 use Rattle.tables.proofs.RefusalLaws.{sides_most}
 use Rattle.checks.specs.Checks.{detect_checks}
-use borrow.Author.Rules.{rules}
 use Rattle.checks.proofs.checked.Goals as goal
 
 pub returns-then-sides_off : goal.returns-then-sides_off

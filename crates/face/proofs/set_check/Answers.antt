@@ -1,5 +1,4 @@
 -- `set_check` meets its contract.
-use borrow.Author.Rules.{rules}
 use Rattle.face.specs.Face.{check_face}
 use Rattle.face.proofs.set_check.Goals as goal
 

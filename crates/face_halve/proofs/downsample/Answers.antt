@@ -1,5 +1,4 @@
 -- `downsample` meets its contract: only the arm that answers sides stores them.
-use borrow.Author.Rules.{rules}
 use Rattle.face_halve.specs.Face.{halved_number, rows_after, cols_after, downsample_face}
 use Rattle.face_halve.proofs.FaceLaws.{halved_left-by}
 use Rattle.face_halve.proofs.downsample.Goals as goal

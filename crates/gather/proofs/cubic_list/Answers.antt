@@ -1,10 +1,6 @@
 -- `cubic_list` meets its contract. The loop's invariant: the cubics beside the first i codes are gathered.
 use mathlib.Core.Path.{◌≡◌}
-use Prim.Native.Nat.{◌≤◌, ◌-◌}
 use native.Mathlib.Omega.{arith}
-use borrow.Author.Rules.{rules}
-use Rattle.gather.specs.Gather.{Gathered}
-use Rattle.gather.specs.Step.{lines_at}
 use Rattle.gather.proofs.ListLaws.{gathered_none, gathered_more}
 use Rattle.gather.proofs.cubic_list.Goals as goal
 

@@ -2,7 +2,6 @@
 use Rattle.gather.proofs.StepLaws.{each-listed}
 use native.Mathlib.Nat.{add-zero}
 use mathlib.Core.Path.{refl}
-use borrow.Author.Rules.{rules}
 use Rattle.gather.proofs.four_of.Goals as goal
 
 pub returns : goal.returns

@@ -1,6 +1,5 @@
 -- `less` meets its contract.
 use mathlib.Core.Path.{refl}
-use borrow.Author.Rules.{rules}
 use Rattle.gather.proofs.StepLaws.{each-listed}
 use Rattle.gather.proofs.less.Goals as goal
 

@@ -1,9 +1,6 @@
 -- `level_list` meets its contract. The loop's invariant: the samples beside the first i codes are in the line.
 use mathlib.Core.Path.{◌≡◌}
-use Prim.Native.Nat.{◌≤◌, ◌-◌}
 use native.Mathlib.Omega.{arith}
-use borrow.Author.Rules.{rules}
-use Rattle.gather.specs.Step.{sample_from, Sampled}
 use Rattle.gather.proofs.ListLaws.{sampled_none, sampled_more}
 use Rattle.gather.proofs.level_list.Goals as goal
 

@@ -1,6 +1,5 @@
 -- `put` meets its contract.
 use native.Mathlib.Omega.{arith}
-use borrow.Author.Rules.{rules}
 use Rattle.gather.proofs.StepLaws.{four_written}
 use Rattle.gather.proofs.put.Goals as goal
 

@@ -1,7 +1,6 @@
 -- `put_below` meets its contract.
 use mathlib.Core.Path.{refl}
 use Rattle.gather.specs.Step.{done, passed}
-use borrow.Author.Rules.{rules}
 use Rattle.gather.proofs.put_below.Goals as goal
 
 pub returns-then-h-n : goal.returns-then-h-n

@@ -1,6 +1,5 @@
 -- `put_cubics` meets its contract.
 use Rattle.gather.proofs.StepLaws.{cubics_put}
-use borrow.Author.Rules.{rules}
 use Rattle.gather.proofs.put_cubics.Goals as goal
 
 pub returns : goal.returns

@@ -1,7 +1,6 @@
 -- `put_line` meets its contract.
 use native.Mathlib.Omega.{arith}
 use Rattle.gather.proofs.StepLaws.{four_written}
-use borrow.Author.Rules.{rules}
 use Rattle.gather.proofs.put_line.Goals as goal
 
 pub returns : goal.returns

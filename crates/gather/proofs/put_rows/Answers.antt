@@ -1,7 +1,6 @@
 -- `put_rows` meets its contract.
 use mathlib.Core.Path.{ap, ◌∙◌}
 use lib.Ieee.{Float}
-use borrow.Author.Rules.{rules}
 use Rattle.float.specs.Num.{◌⊕◌}
 use Rattle.fit.specs.Cubic.{◌at◌}
 use Rattle.gather.proofs.StepLaws.{each-written}

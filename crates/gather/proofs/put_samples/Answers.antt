@@ -1,6 +1,5 @@
 -- `put_samples` meets its contract.
 use Rattle.gather.proofs.ListLaws.{lined_past, lined_here}
-use borrow.Author.Rules.{rules}
 use Rattle.gather.proofs.put_samples.Goals as goal
 
 pub returns-then-n-h : goal.returns-then-n-h

@@ -1,5 +1,4 @@
 -- `rows` meets its contract.
-use borrow.Author.Rules.{rules}
 use Rattle.gather.proofs.StepLaws.{each-listed}
 use Rattle.gather.proofs.rows.Goals as goal
 

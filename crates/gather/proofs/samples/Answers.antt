@@ -1,5 +1,4 @@
 -- `samples` meets its contract.
-use borrow.Author.Rules.{rules}
 use Rattle.gather.proofs.StepLaws.{samples_listed}
 use Rattle.gather.proofs.samples.Goals as goal
 

@@ -1,6 +1,5 @@
 -- `stencil` meets its contract.
 use mathlib.Core.Path.{refl}
-use borrow.Author.Rules.{rules}
 use Rattle.gather.specs.Step.{stencil_by}
 use Rattle.gather.proofs.stencil.Goals as goal
 

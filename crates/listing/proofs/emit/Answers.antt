@@ -3,7 +3,6 @@ use native.Mathlib.Omega.{arith}
 use mathlib.Core.Path.{refl, sym, ◌∙◌}
 use Rattle.record.proofs.LayoutLaws.{lay-one, laid_none}
 use Rattle.pixel.specs.Listed.{listed}
-use borrow.Author.Rules.{rules}
 use Rattle.listing.proofs.emit.Goals as goal
 
 pub returns-in-Listed : goal.returns-in-Listed

@@ -2,7 +2,6 @@
 use native.Mathlib.Omega.{arith}
 use Rattle.record.proofs.LayoutLaws.{laid-append}
 use Rattle.pixel.specs.Listed.{both_listed}
-use borrow.Author.Rules.{rules}
 use Rattle.listing.proofs.lay_listing.Goals as goal
 
 pub emit-requires : goal.emit-requires

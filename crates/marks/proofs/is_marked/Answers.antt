@@ -1,6 +1,5 @@
 -- `is_marked` meets its contract.
 use mathlib.Core.Path.{refl}
-use borrow.Author.Rules.{rules}
 use Rattle.marks.specs.Marks.{mark_at}
 use Rattle.marks.proofs.is_marked.Goals as goal
 

@@ -1,8 +1,7 @@
 -- `put_line` meets its contract. The loop's invariant: the first i bytes of the column are written.
-use Prim.Native.Nat.{◌-◌, ◌≤◌}
 use mathlib.Core.Path.{◌≡◌}
 use native.Mathlib.Omega.{arith}
-use Rattle.marks.proofs.MarksLaws.{Puts, puts_none, puts_more, puts_all}
+use Rattle.marks.proofs.MarksLaws.{puts_none, puts_more, puts_all}
 use Rattle.marks.proofs.put_line.Goals as goal
 
 pub loop-i-init : goal.loop-i-init

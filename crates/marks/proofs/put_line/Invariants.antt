@@ -1,8 +1,6 @@
 -- `put_line` meets its contract. The loop's invariant: the first i bytes of the column are written.
 use Prim.Native.Nat.{◌-◌, ◌≤◌}
-use mathlib.Core.Path.{◌≡◌}
-use native.Mathlib.Omega.{arith}
-use Rattle.marks.proofs.MarksLaws.{Puts, puts_none, puts_more, puts_all}
+use Rattle.marks.proofs.MarksLaws.{Puts}
 use Rattle.marks.proofs.put_line.Given as goal
 
 abbrev pub invariant-loop-i : goal.invariant-loop-i

@@ -1,6 +1,5 @@
 -- `is_nearby` meets its contract.
 use Rattle.moves.specs.Moves.{nearby}
-use borrow.Author.Rules.{rules}
 use Rattle.moves.proofs.is_nearby.Goals as goal
 
 pub returns : goal.returns

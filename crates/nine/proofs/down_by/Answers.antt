@@ -1,6 +1,5 @@
 -- `down_by` meets its contract.
 use Rattle.nine.specs.Nine.{down_by}
-use borrow.Author.Rules.{rules}
 use Rattle.nine.proofs.down_by.Goals as goal
 
 pub returns : goal.returns

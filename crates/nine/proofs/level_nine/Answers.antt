@@ -1,6 +1,5 @@
 -- `level_nine` meets its contract.
 use Rattle.nine.specs.Nine.{level_nine}
-use borrow.Author.Rules.{rules}
 use Rattle.nine.proofs.level_nine.Goals as goal
 
 pub returns : goal.returns

@@ -3,7 +3,6 @@ use Prim.Native.Nat.{◌-◌}
 use native.Mathlib.Omega.{arith}
 use mathlib.Core.Path.{refl, ◌∙◌}
 use Rattle.nine.proofs.LevelsLaws.{levels_beside, nine_there}
-use borrow.Author.Rules.{rules}
 use Rattle.nine.proofs.nine_at.Goals as goal
 
 pub overflow_add-x : goal.overflow_add-x

@@ -2,7 +2,6 @@
 use mathlib.Core.Path.{◌∙◌}
 use Rattle.samples.specs.Four.{four_of}
 use Rattle.nine.proofs.NineLaws.{nine_turned}
-use borrow.Author.Rules.{rules}
 use Rattle.nine.proofs.nine_by.Goals as goal
 
 pub returns : goal.returns

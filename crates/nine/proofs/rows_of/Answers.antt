@@ -1,7 +1,6 @@
 -- `rows_of` meets its contract.
 use mathlib.Core.Path.{refl}
 use Rattle.nine.specs.Nine.{rows_of}
-use borrow.Author.Rules.{rules}
 use Rattle.nine.proofs.rows_of.Goals as goal
 
 pub returns : goal.returns

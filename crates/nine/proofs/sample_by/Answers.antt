@@ -1,7 +1,6 @@
 -- `sample_by` meets its contract.
 use Rattle.samples.specs.Level.{stencil_of}
 use Rattle.nine.specs.Nine.{sample_by}
-use borrow.Author.Rules.{rules}
 use Rattle.nine.proofs.sample_by.Goals as goal
 
 pub returns : goal.returns

@@ -1,6 +1,5 @@
 -- `turn` meets its contract.
 use Rattle.nine.specs.Nine.{turned}
-use borrow.Author.Rules.{rules}
 use Rattle.nine.proofs.turn.Goals as goal
 
 pub returns : goal.returns

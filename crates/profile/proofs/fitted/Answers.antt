@@ -1,6 +1,5 @@
 -- `fitted` meets its contract.
 use Rattle.profile.specs.Profile.{fitted_of}
-use borrow.Author.Rules.{rules}
 use Rattle.profile.proofs.fitted.Goals as goal
 
 pub returns-then-usable_line : goal.returns-then-usable_line

@@ -1,5 +1,4 @@
 -- `off_line` meets its contract.
-use borrow.Author.Rules.{rules}
 use Rattle.profile.proofs.off_line.Goals as goal
 
 pub returns : goal.returns

@@ -1,6 +1,5 @@
 -- `profile_compatibility_statistic` meets its contract.
 use Rattle.profile.specs.Profile.{statistic_by}
-use borrow.Author.Rules.{rules}
 use Rattle.profile.proofs.profile_compatibility_statistic.Goals as goal
 
 pub returns-then-usable_samples : goal.returns-then-usable_samples

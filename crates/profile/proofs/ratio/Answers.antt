@@ -1,6 +1,5 @@
 -- `ratio` meets its contract.
 use Rattle.profile.specs.Profile.{ratio_of}
-use borrow.Author.Rules.{rules}
 use Rattle.profile.proofs.ratio.Goals as goal
 
 pub returns-then-usable_energy : goal.returns-then-usable_energy

@@ -1,7 +1,6 @@
 -- `residual` meets its contract.
 use Rattle.profile.specs.Profile.{residual_of}
 use mathlib.Core.Path.{refl}
-use borrow.Author.Rules.{rules}
 use Rattle.profile.proofs.residual.Goals as goal
 
 pub returns : goal.returns

@@ -1,6 +1,5 @@
 -- `scaled` meets its contract.
 use Rattle.profile.specs.Profile.{scaled_by}
-use borrow.Author.Rules.{rules}
 use Rattle.profile.proofs.scaled.Goals as goal
 
 pub returns-then-usable_roots : goal.returns-then-usable_roots

@@ -1,6 +1,5 @@
 -- `usable_energy` meets its contract.
 use Rattle.profile.specs.Profile.{usable_energy}
-use borrow.Author.Rules.{rules}
 use Rattle.profile.proofs.usable_energy.Goals as goal
 
 pub returns : goal.returns

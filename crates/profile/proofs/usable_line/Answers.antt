@@ -1,6 +1,5 @@
 -- `usable_line` meets its contract.
 use Rattle.profile.specs.Profile.{usable_line}
-use borrow.Author.Rules.{rules}
 use Rattle.profile.proofs.usable_line.Goals as goal
 
 pub returns : goal.returns

@@ -1,6 +1,5 @@
 -- `usable_roots` meets its contract.
 use Rattle.profile.specs.Profile.{usable_roots}
-use borrow.Author.Rules.{rules}
 use Rattle.profile.proofs.usable_roots.Goals as goal
 
 pub returns : goal.returns

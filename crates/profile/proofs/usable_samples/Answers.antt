@@ -1,6 +1,5 @@
 -- `usable_samples` meets its contract.
 use Rattle.profile.specs.Profile.{usable_samples}
-use borrow.Author.Rules.{rules}
 use Rattle.profile.proofs.usable_samples.Goals as goal
 
 pub returns : goal.returns

@@ -1,5 +1,4 @@
 -- `downsample` meets its contract, refusals and all.
-use borrow.Author.Rules.{rules}
 use mathlib.Core.Path.{sym, ◌∙◌}
 use Rattle.pyramid.specs.Pyramid.{downsample_of, downsampled}
 use Rattle.pyramid.proofs.HalvedLaws.{checks_passed, passed_halves, halved_stored}

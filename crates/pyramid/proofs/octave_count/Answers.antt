@@ -2,7 +2,6 @@
 use native.Mathlib.Nat.{min-eq_left, min-eq_right}
 use native.Mathlib.Omega.{arith}
 use Rattle.pyramid.specs.Pyramid.{octave_count_of}
-use borrow.Author.Rules.{rules}
 use Rattle.pyramid.proofs.octave_count.Goals as goal
 
 pub returns-then-rows-cols : goal.returns-then-rows-cols

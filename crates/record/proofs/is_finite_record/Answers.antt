@@ -1,5 +1,4 @@
 -- `record::is_finite_record` meets its contract. Assumes nothing.
-use borrow.Author.Rules.{rules}
 use Rattle.record.specs.Readable.{finite_record}
 use Rattle.record.proofs.is_finite_record.Goals as goal
 

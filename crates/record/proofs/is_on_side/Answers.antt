@@ -1,5 +1,4 @@
 -- `record::is_on_side` meets its contract. Assumes nothing.
-use borrow.Author.Rules.{rules}
 use mathlib.Core.Path.{◌∙◌}
 use Rattle.record.specs.Readable.{on_side}
 use Rattle.record.proofs.is_on_side.Goals as goal

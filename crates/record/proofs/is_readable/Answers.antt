@@ -1,5 +1,4 @@
 -- `record::is_readable` meets its contract. Assumes nothing.
-use borrow.Author.Rules.{rules}
 use Prim.Native.Nat.{ℕ, ◌*◌, ◌^◌, ◌≤◌, ◌<◌}
 use native.Mathlib.Nat.{mul-le-mul, lt_of_le_of_lt}
 use lib.Dec.{lit<}

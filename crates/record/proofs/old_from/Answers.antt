@@ -1,5 +1,4 @@
 -- `record::old_from` meets its contract. Assumes nothing.
-use borrow.Author.Rules.{rules}
 use Rattle.record.specs.Layout.{old_from}
 use Rattle.record.proofs.old_from.Goals as goal
 

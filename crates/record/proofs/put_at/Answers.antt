@@ -1,5 +1,4 @@
 -- `record::put_at` meets its contract. Assumes nothing.
-use borrow.Author.Rules.{rules}
 use native.Mathlib.Omega.{arith}
 use mathlib.Core.Path.{sym, ◌∙◌}
 use Rattle.record.proofs.LayoutLaws.{put-room, put_full}

@@ -1,5 +1,4 @@
 -- `record::put_floats` meets its contract. Assumes nothing.
-use borrow.Author.Rules.{rules}
 use native.Mathlib.Nat.{add_assoc}
 use Rattle.record.specs.Layout.{floats4}
 use Rattle.words.proofs.Stores.{sets-append}

@@ -1,5 +1,4 @@
 -- `record::put_old` meets its contract. Assumes nothing.
-use borrow.Author.Rules.{rules}
 use Rattle.record.proofs.LayoutLaws.{old_bytes_parts}
 use Rattle.record.proofs.put_old.Goals as goal
 

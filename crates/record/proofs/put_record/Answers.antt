@@ -1,5 +1,4 @@
 -- `record::put_record` meets its contract. Assumes nothing.
-use borrow.Author.Rules.{rules}
 use Rattle.record.proofs.LayoutLaws.{record_bytes_parts}
 use Rattle.record.proofs.put_record.Goals as goal
 

@@ -1,5 +1,4 @@
 -- `record::record_from` meets its contract. Assumes nothing.
-use borrow.Author.Rules.{rules}
 use Rattle.record.specs.Layout.{record_from}
 use Rattle.record.proofs.record_from.Goals as goal
 

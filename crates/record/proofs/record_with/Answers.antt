@@ -1,5 +1,4 @@
 -- `record::record_with` meets its contract. Assumes nothing.
-use borrow.Author.Rules.{rules}
 use Rattle.record.specs.Layout.{record_with}
 use Rattle.record.proofs.record_with.Goals as goal
 

@@ -1,11 +1,10 @@
 -- `copy` meets its contract. The loop's invariant: the first i floats are stored.
 use lib.Ieee.{nan}
 use Rattle.ring.proofs.RingLaws.{stored_more}
-use mathlib.Core.Path.{◌≡◌, refl, ap, ◌∙◌}
-use Prim.Native.Nat.{◌≤◌, ◌-◌}
+use mathlib.Core.Path.{refl, ap, ◌∙◌}
 use native.Mathlib.Omega.{arith}
 use lib.ListN.{length, take}
-use lib.Seq.{sets, length-sets, take_all}
+use lib.Seq.{length-sets, take_all}
 use Rattle.ring.proofs.copy.Goals as goal
 
 pub loop-i-init : goal.loop-i-init

@@ -1,11 +1,8 @@
 -- `copy` meets its contract. The loop's invariant: the first i floats are stored.
-use lib.Ieee.{nan}
-use Rattle.ring.proofs.RingLaws.{stored_more}
-use mathlib.Core.Path.{◌≡◌, refl, ap, ◌∙◌}
+use mathlib.Core.Path.{◌≡◌}
 use Prim.Native.Nat.{◌≤◌, ◌-◌}
-use native.Mathlib.Omega.{arith}
 use lib.ListN.{length, take}
-use lib.Seq.{sets, length-sets, take_all}
+use lib.Seq.{sets}
 use Rattle.ring.proofs.copy.Given as goal
 
 abbrev pub invariant-loop-i : goal.invariant-loop-i

@@ -6,7 +6,6 @@ use Rattle.samples.specs.Level.{nine_of}
 use Rattle.samples.specs.Four.{four_of}
 use Rattle.ring.specs.Ring.{samples_fed}
 use Rattle.ring.proofs.RingLaws.{ring_beside, nine_fed_lem}
-use borrow.Author.Rules.{rules}
 use Rattle.ring.proofs.nine_at.Goals as goal
 
 pub nine_by-requires : goal.nine_by-requires

@@ -1,5 +1,4 @@
 -- `store` meets its contract.
-use borrow.Author.Rules.{rules}
 use Rattle.ring.proofs.store.Goals as goal
 
 pub returns-then-taken : goal.returns-then-taken

@@ -1,5 +1,4 @@
 -- `column` meets its contract.
-use borrow.Author.Rules.{rules}
 use Rattle.slots.proofs.ColumnLaws.{filled_alike, lines_read}
 use Rattle.slots.proofs.column.Goals as goal
 

@@ -1,6 +1,5 @@
 -- `own_lines` meets its contract.
 use mathlib.Core.Path.{refl}
-use borrow.Author.Rules.{rules}
 use Rattle.slots.proofs.ColumnLaws.{filled_alike, lines_read}
 use Rattle.slots.proofs.own_lines.Goals as goal
 

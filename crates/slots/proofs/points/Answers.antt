@@ -1,7 +1,6 @@
 -- `points` meets its contract.
 use mathlib.Core.Path.{◌∙◌}
 use native.Mathlib.Omega.{arith}
-use borrow.Author.Rules.{rules}
 use Rattle.slots.proofs.ColumnLaws.{filled_by}
 use Rattle.slots.proofs.points.Goals as goal
 

@@ -1,12 +1,9 @@
 -- `sample_line` meets its contract. The loop's invariant: the first i samples are written.
 use mathlib.Core.Path.{◌≡◌}
 use Prim.Native.Nat.{◌+◌, ◌≤◌, ◌-◌}
-use native.Mathlib.Omega.{arith}
 use lib.Ieee.{nan}
-use borrow.Author.Rules.{rules}
 use Rattle.columns.specs.Line.{Written}
 use Rattle.columns.specs.Sample.{stencil_at}
-use Rattle.columns.proofs.LineLaws.{written_none, written_next}
 use Rattle.slots.proofs.sample_line.Given as goal
 
 abbrev pub invariant-loop-i : goal.invariant-loop-i

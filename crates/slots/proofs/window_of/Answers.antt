@@ -1,5 +1,4 @@
 -- `window_of` meets its contract.
-use borrow.Author.Rules.{rules}
 use Rattle.slots.proofs.window_of.Goals as goal
 
 pub returns : goal.returns

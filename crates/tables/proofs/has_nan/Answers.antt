@@ -1,6 +1,5 @@
 -- `has_nan` meets its contract.
 use Rattle.tables.specs.Refusal.{any_nan}
-use borrow.Author.Rules.{rules}
 use Rattle.tables.proofs.has_nan.Goals as goal
 
 pub returns : goal.returns

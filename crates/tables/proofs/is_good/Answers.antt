@@ -1,6 +1,5 @@
 -- `is_good` meets its contract.
 use Rattle.tables.specs.Set.{good}
-use borrow.Author.Rules.{rules}
 use Rattle.tables.proofs.is_good.Goals as goal
 
 pub returns : goal.returns

@@ -3,7 +3,6 @@ use mathlib.Core.Path.{sym, ◌∙◌}
 use borrow.Author.Tests.{eq-eqb, not-true, not-false}
 use Rattle.tables.specs.Set.{good_record}
 use Rattle.tables.proofs.SetLaws.{good-record_read, bad-record-refused, wrong_length}
-use borrow.Author.Rules.{rules}
 use Rattle.tables.proofs.read_set.Goals as goal
 
 pub returns-then-bytes-ne528 : goal.returns-then-bytes-ne528

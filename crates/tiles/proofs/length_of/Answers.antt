@@ -1,7 +1,6 @@
 -- `length_of` meets its contract.
 use native.Mathlib.Omega.{arith}
 use Rattle.tiles.specs.Tiles.{length_of}
-use borrow.Author.Rules.{rules}
 use Rattle.tiles.proofs.length_of.Goals as goal
 
 pub returns-then-left-gt-RUN : goal.returns-then-left-gt-RUN

@@ -1,7 +1,6 @@
 -- `tiles_of` meets its contract.
 use native.Mathlib.Omega.{arith}
 use Rattle.tiles.specs.Tiles.{tiles_of}
-use borrow.Author.Rules.{rules}
 use Rattle.tiles.proofs.tiles_of.Goals as goal
 
 pub returns-then-side-lt9 : goal.returns-then-side-lt9

@@ -1,10 +1,8 @@
-
 use mathlib.Core.Path.{◌≡◌, refl}
 use mathlib.Core.Bool.{Bool, true, false, cond}
 use lib.Ieee.{Float}
 use Rattle.float.specs.Num.{◌⊘◌}
 use Rattle.fit.specs.Envelope.{first_of}
-use borrow.Author.Rules.{rules}
 use Rattle.fit.proofs.points.first_of.Goals as goal
 
 -- a quotient of choices is the choice of the quotients

@@ -1,5 +1,3 @@
-
-use borrow.Author.Rules.{rules}
 use Rattle.fit.proofs.points.is_quadratic.Goals as goal
 
 pub returns : goal.returns

@@ -1,7 +1,5 @@
-
 use mathlib.Core.Path.{refl}
 use Rattle.fit.specs.Envelope.{second_of}
-use borrow.Author.Rules.{rules}
 use Rattle.fit.proofs.points.second_of.Goals as goal
 
 pub returns : goal.returns

@@ -1,7 +1,5 @@
-
 use Rattle.fit.specs.Envelope.{first_of, second_of}
 use Rattle.fit.specs.Extrema.{both_of}
-use borrow.Author.Rules.{rules}
 use Rattle.fit.proofs.reference.both.Goals as goal
 
 pub returns-then-d : goal.returns-then-d

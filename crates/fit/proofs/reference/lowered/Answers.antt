@@ -1,6 +1,4 @@
-
 use Rattle.fit.specs.Extrema.{lowered_of}
-use borrow.Author.Rules.{rules}
 use Rattle.fit.proofs.reference.lowered.Goals as goal
 
 pub returns : goal.returns

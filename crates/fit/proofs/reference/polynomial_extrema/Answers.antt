@@ -1,7 +1,5 @@
-
 use Rattle.fit.specs.Envelope.{first_of}
 use Rattle.fit.specs.Extrema.{extrema_of}
-use borrow.Author.Rules.{rules}
 use Rattle.fit.proofs.reference.polynomial_extrema.Goals as goal
 
 pub returns-then-is_cubic : goal.returns-then-is_cubic

@@ -1,6 +1,4 @@
-
 use Rattle.fit.specs.Extrema.{raised_of}
-use borrow.Author.Rules.{rules}
 use Rattle.fit.proofs.reference.raised.Goals as goal
 
 pub returns : goal.returns

@@ -1,6 +1,4 @@
-
 use Rattle.fit.specs.Extrema.{single_of}
-use borrow.Author.Rules.{rules}
 use Rattle.fit.proofs.reference.single.Goals as goal
 
 pub returns-then-is_inside-is_finite : goal.returns-then-is_inside-is_finite

@@ -1,6 +1,4 @@
-
 use Rattle.fit.specs.Cubic.{coeffs_of}
-use borrow.Author.Rules.{rules}
 use Rattle.fit.proofs.scale_fit.apply_cubic_transform.Goals as goal
 
 pub returns : goal.returns

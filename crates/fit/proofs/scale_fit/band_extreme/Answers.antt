@@ -1,7 +1,5 @@
-
 use Rattle.fit.specs.Band.{extreme_by}
 use borrow.Author.Tests.{not-true, not-false}
-use borrow.Author.Rules.{rules}
 use Rattle.fit.proofs.scale_fit.band_extreme.Goals as goal
 
 pub returns-then-not-is_finite_cubic : goal.returns-then-not-is_finite_cubic

@@ -1,6 +1,5 @@
 -- `scale_fit::better` meets its contract.
 use Rattle.fit.specs.Band.{better_by}
-use borrow.Author.Rules.{rules}
 use Rattle.fit.proofs.scale_fit.better.Goals as goal
 
 pub returns-in-At : goal.returns-in-At

@@ -1,7 +1,5 @@
-
 use mathlib.Core.Path.{refl}
 use Rattle.fit.specs.Cubic.{curvature_of}
-use borrow.Author.Rules.{rules}
 use Rattle.fit.proofs.scale_fit.curvature.Goals as goal
 
 pub returns : goal.returns

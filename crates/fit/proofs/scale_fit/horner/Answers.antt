@@ -1,7 +1,5 @@
-
 use mathlib.Core.Path.{refl}
 use Rattle.fit.specs.Cubic.{horner_of}
-use borrow.Author.Rules.{rules}
 use Rattle.fit.proofs.scale_fit.horner.Goals as goal
 
 pub returns : goal.returns

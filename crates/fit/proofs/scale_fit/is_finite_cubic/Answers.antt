@@ -1,6 +1,4 @@
-
 use Rattle.fit.specs.Band.{finite_cubic}
-use borrow.Author.Rules.{rules}
 use Rattle.fit.proofs.scale_fit.is_finite_cubic.Goals as goal
 
 pub returns : goal.returns

@@ -1,6 +1,4 @@
-
 use Rattle.fit.specs.Band.{band_by}
-use borrow.Author.Rules.{rules}
 use Rattle.fit.proofs.scale_fit.neighbor_scale_band.Goals as goal
 
 pub returns : goal.returns

@@ -1,4 +1,3 @@
-
 use mathlib.Core.Path.{refl}
 use lib.Ieee.{div, of_bits}
 use Rattle.fit.proofs.scale_fit.not_a_number.Goals as goal

@@ -1,5 +1,3 @@
-
-
 use Rattle.fit.proofs.scale_fit.opens.Goals as goal
 
 pub returns-then-is_max : goal.returns-then-is_max

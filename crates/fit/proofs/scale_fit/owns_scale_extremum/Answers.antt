@@ -1,6 +1,4 @@
-
 use Rattle.fit.specs.Owns.{owns_by}
-use borrow.Author.Rules.{rules}
 use Rattle.fit.proofs.scale_fit.owns_scale_extremum.Goals as goal
 
 pub returns-then-is_max : goal.returns-then-is_max

@@ -1,4 +1,3 @@
-
 use Rattle.fit.specs.Band.{sign_of}
 use Rattle.fit.proofs.scale_fit.sign_of.Goals as goal
 

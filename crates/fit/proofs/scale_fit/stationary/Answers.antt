@@ -1,7 +1,5 @@
-
 use Rattle.fit.specs.Envelope.{first_of, second_of}
 use Rattle.fit.specs.Band.{stationary_of}
-use borrow.Author.Rules.{rules}
 use Rattle.fit.proofs.scale_fit.stationary.Goals as goal
 
 pub returns-then-d : goal.returns-then-d

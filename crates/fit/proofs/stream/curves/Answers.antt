@@ -1,5 +1,3 @@
-
-
 use Rattle.fit.proofs.stream.curves.Goals as goal
 
 pub returns-then-is_min : goal.returns-then-is_min

@@ -1,6 +1,4 @@
-
 use Rattle.fit.specs.Envelope.{ends_by}
-use borrow.Author.Rules.{rules}
 use Rattle.fit.proofs.stream.ends.Goals as goal
 
 pub returns : goal.returns

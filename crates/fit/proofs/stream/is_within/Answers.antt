@@ -1,4 +1,3 @@
-
 use mathlib.Core.Path.{refl}
 use Rattle.fit.specs.Envelope.{within}
 use Rattle.fit.proofs.stream.is_within.Goals as goal

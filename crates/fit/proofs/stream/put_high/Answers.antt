@@ -1,4 +1,3 @@
-
 use Rattle.fit.specs.Envelope.{put_high}
 use Rattle.fit.proofs.stream.put_high.Goals as goal
 

@@ -1,4 +1,3 @@
-
 use Rattle.fit.specs.Envelope.{put_low}
 use Rattle.fit.proofs.stream.put_low.Goals as goal
 

@@ -1,6 +1,4 @@
-
 use Rattle.fit.specs.Envelope.{envelope_by}
-use borrow.Author.Rules.{rules}
 use Rattle.fit.proofs.stream.scale_envelope.Goals as goal
 
 pub returns : goal.returns

@@ -1,6 +1,4 @@
-
 use Rattle.fit.specs.Envelope.{shape_by}
-use borrow.Author.Rules.{rules}
 use Rattle.fit.proofs.stream.shape.Goals as goal
 
 pub returns : goal.returns

@@ -1,6 +1,4 @@
-
 use Rattle.fit.specs.Envelope.{turn_of}
-use borrow.Author.Rules.{rules}
 use Rattle.fit.proofs.stream.turn.Goals as goal
 
 pub returns : goal.returns

@@ -1,6 +1,4 @@
-
 use Rattle.fit.specs.Envelope.{turns_of}
-use borrow.Author.Rules.{rules}
 use Rattle.fit.proofs.stream.turns.Goals as goal
 
 pub returns : goal.returns

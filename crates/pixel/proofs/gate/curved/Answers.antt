@@ -1,6 +1,5 @@
 -- `gate::curved` meets its contract.
 use Rattle.pixel.specs.Gate.{curved_of}
-use borrow.Author.Rules.{rules}
 use Rattle.pixel.proofs.gate.curved.Goals as goal
 
 pub returns : goal.returns

@@ -1,7 +1,6 @@
 -- `gate::gate` meets its contract.
 use Rattle.pixel.specs.Gate.{gate_by}
 use borrow.Author.Tests.{not-true, not-false}
-use borrow.Author.Rules.{rules}
 use Rattle.pixel.proofs.gate.gate.Goals as goal
 
 pub returns-then-not-is_within : goal.returns-then-not-is_within

@@ -1,6 +1,5 @@
 -- `judge::admit` meets its contract.
 use Rattle.pixel.specs.Verdict.{admit_of}
-use borrow.Author.Rules.{rules}
 use Rattle.pixel.proofs.judge.admit.Goals as goal
 
 pub returns-then-is_readable : goal.returns-then-is_readable

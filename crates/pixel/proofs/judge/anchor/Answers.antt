@@ -1,6 +1,5 @@
 -- `judge::anchor` meets its contract.
 use Rattle.pixel.specs.Verdict.{anchor_of}
-use borrow.Author.Rules.{rules}
 use Rattle.pixel.proofs.judge.anchor.Goals as goal
 
 pub returns : goal.returns

@@ -2,13 +2,12 @@
 use native.Mathlib.Numerals.{add-one}
 use mathlib.Core.Path.{◌≡◌, refl, sym, ◌∙◌}
 use mathlib.Core.List.{[]}
-use Prim.Native.Nat.{◌≤◌, ◌<◌, ◌-◌}
+use Prim.Native.Nat.{◌≤◌, ◌<◌}
 use native.Mathlib.Omega.{arith}
-use lib.ListN.{length, take, length-set}
+use lib.ListN.{length, length-set}
 use lib.Seq.{take-suc, take-suc-set, take_all}
 use Rattle.pixel.specs.Verdict.{cubics_of}
 use Rattle.pixel.proofs.NineLaws.{cubics_snoc}
-use borrow.Author.Rules.{rules}
 use Rattle.pixel.proofs.judge.cubics_of.Goals as goal
 
 pub loop-i-init : goal.loop-i-init

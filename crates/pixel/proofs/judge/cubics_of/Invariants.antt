@@ -1,14 +1,8 @@
 -- `judge::cubics_of` meets its contract.
-use native.Mathlib.Numerals.{add-one}
-use mathlib.Core.Path.{◌≡◌, refl, sym, ◌∙◌}
-use mathlib.Core.List.{[]}
-use Prim.Native.Nat.{◌≤◌, ◌<◌, ◌-◌}
-use native.Mathlib.Omega.{arith}
-use lib.ListN.{length, take, length-set}
-use lib.Seq.{take-suc, take-suc-set, take_all}
+use mathlib.Core.Path.{◌≡◌}
+use Prim.Native.Nat.{◌≤◌, ◌-◌}
+use lib.ListN.{length, take}
 use Rattle.pixel.specs.Verdict.{cubics_of}
-use Rattle.pixel.proofs.NineLaws.{cubics_snoc}
-use borrow.Author.Rules.{rules}
 use Rattle.pixel.proofs.judge.cubics_of.Given as goal
 
 abbrev pub invariant-loop-i : goal.invariant-loop-i

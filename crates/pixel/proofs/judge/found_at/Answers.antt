@@ -1,5 +1,4 @@
 -- `judge::found_at` meets its contract.
-use borrow.Author.Rules.{rules}
 use Rattle.pixel.proofs.judge.found_at.Goals as goal
 
 pub returns : goal.returns

@@ -2,13 +2,12 @@
 use native.Mathlib.Numerals.{add-one}
 use mathlib.Core.Path.{◌≡◌, refl, ◌∙◌}
 use mathlib.Core.List.{[]}
-use Prim.Native.Nat.{◌≤◌, ◌<◌, ◌-◌}
+use Prim.Native.Nat.{◌≤◌, ◌<◌}
 use native.Mathlib.Omega.{arith}
-use lib.ListN.{length, take}
+use lib.ListN.{length}
 use lib.Seq.{take-suc, take_all}
 use Rattle.pixel.specs.Verdict.{whole_of}
 use Rattle.pixel.proofs.NineLaws.{whole_snoc}
-use borrow.Author.Rules.{rules}
 use Rattle.pixel.proofs.judge.is_whole.Goals as goal
 
 pub loop-i-init : goal.loop-i-init

@@ -1,6 +1,5 @@
 -- `judge::is_whole_place` meets its contract.
 use Rattle.pixel.specs.Verdict.{whole_place}
-use borrow.Author.Rules.{rules}
 use Rattle.pixel.proofs.judge.is_whole_place.Goals as goal
 
 pub returns : goal.returns

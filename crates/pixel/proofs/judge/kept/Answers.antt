@@ -4,7 +4,6 @@ use borrow.Author.Tests.{not-true, not-false}
 use Rattle.pixel.specs.Ring.{ring_of}
 use Rattle.pixel.specs.Verdict.{whole_of}
 use Rattle.pixel.proofs.OrderLaws.{nothing_either}
-use borrow.Author.Rules.{rules}
 use Rattle.pixel.proofs.judge.kept.Goals as goal
 
 pub returns-then-not-beats_all : goal.returns-then-not-beats_all

@@ -1,5 +1,4 @@
 -- `judge::listing` meets its contract: both polarities from one envelope.
-use borrow.Author.Rules.{rules}
 use Rattle.pixel.proofs.judge.listing.Goals as goal
 
 pub verdict-low-requires : goal.verdict-low-requires

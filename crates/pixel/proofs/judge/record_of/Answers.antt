@@ -1,6 +1,5 @@
 -- `judge::record_of` meets its contract.
 use Rattle.pixel.specs.Verdict.{record_of}
-use borrow.Author.Rules.{rules}
 use Rattle.pixel.proofs.judge.record_of.Goals as goal
 
 pub returns : goal.returns

@@ -1,5 +1,4 @@
 -- `judge::refined` meets its contract.
-use borrow.Author.Rules.{rules}
 use Rattle.pixel.proofs.judge.refined.Goals as goal
 
 pub returns : goal.returns

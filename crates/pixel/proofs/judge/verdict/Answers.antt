@@ -2,7 +2,6 @@
 use mathlib.Core.Path.{sym, ◌∙◌}
 use borrow.Author.Tests.{not-true, not-false}
 use Rattle.pixel.proofs.OrderLaws.{verdict_off, verdict_on}
-use borrow.Author.Rules.{rules}
 use Rattle.pixel.proofs.judge.verdict.Goals as goal
 
 pub returns-then-not-own_gate : goal.returns-then-not-own_gate

@@ -1,5 +1,4 @@
 -- `ring::beats` meets its contract.
-use borrow.Author.Rules.{rules}
 use Rattle.pixel.specs.Ring.{beats_cubic}
 use Rattle.pixel.proofs.ring.beats.Goals as goal
 

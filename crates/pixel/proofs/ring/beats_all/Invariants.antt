@@ -1,13 +1,8 @@
 -- `ring::beats_all` meets its contract. The loop's invariant: the peak beats the first i places.
-use mathlib.Core.Path.{◌≡◌, sym, ◌∙◌}
+use mathlib.Core.Path.{◌≡◌}
 use mathlib.Core.Bool.{true}
 use Prim.Native.Nat.{ℕ, ◌≤◌, ◌<◌, ◌-◌}
-use native.Mathlib.Nat.{not-suc-le-zero}
-use native.Mathlib.Omega.{arith}
-use borrow.Author.Count.{below_more}
-use borrow.Author.Tests.{not-true, not-false}
-use Rattle.pixel.specs.Ring.{beats_of, ring_by}
-use Rattle.pixel.proofs.RingLaws.{all_true, all_false}
+use Rattle.pixel.specs.Ring.{beats_of}
 use Rattle.pixel.proofs.ring.beats_all.Given as goal
 
 abbrev pub invariant-loop-i : goal.invariant-loop-i

@@ -3,7 +3,6 @@ use mathlib.Core.Path.{sym, ◌∙◌}
 use borrow.Author.Tests.{eq-eqb, ne_eqb}
 use Rattle.pixel.proofs.RingLaws.{beats_itself}
 use Rattle.pixel.proofs.OrderLaws.{beats-listed}
-use borrow.Author.Rules.{rules}
 use Rattle.pixel.proofs.ring.beats_at.Goals as goal
 
 pub returns-then-i-eq4 : goal.returns-then-i-eq4

@@ -1,7 +1,6 @@
 -- `all_below` meets its contract.
 use Rattle.profile.specs.Four.{all_below}
 use mathlib.Core.Path.{refl}
-use borrow.Author.Rules.{rules}
 use Rattle.profile.proofs.four.all_below.Goals as goal
 
 pub returns : goal.returns

@@ -1,6 +1,5 @@
 -- `all_finite` meets its contract.
 use Rattle.profile.specs.Four.{all_finite}
-use borrow.Author.Rules.{rules}
 use Rattle.profile.proofs.four.all_finite.Goals as goal
 
 pub returns : goal.returns

@@ -1,6 +1,5 @@
 -- `all_usable` meets its contract.
 use Rattle.profile.specs.Four.{all_usable}
-use borrow.Author.Rules.{rules}
 use Rattle.profile.proofs.four.all_usable.Goals as goal
 
 pub returns : goal.returns

@@ -1,6 +1,5 @@
 -- `dot` meets its contract.
 use Rattle.profile.specs.Four.{dot_of}
-use borrow.Author.Rules.{rules}
 use Rattle.profile.proofs.four.dot.Goals as goal
 
 pub returns : goal.returns

@@ -1,6 +1,5 @@
 -- `energy` meets its contract.
 use Rattle.profile.specs.Four.{energy_of}
-use borrow.Author.Rules.{rules}
 use Rattle.profile.proofs.four.energy.Goals as goal
 
 pub returns : goal.returns

@@ -1,6 +1,5 @@
 -- `is_usable` meets its contract.
 use Rattle.profile.specs.Four.{usable}
-use borrow.Author.Rules.{rules}
 use Rattle.profile.proofs.four.is_usable.Goals as goal
 
 pub returns : goal.returns

@@ -1,6 +1,5 @@
 -- `largest` meets its contract.
 use Rattle.profile.specs.Four.{largest_by}
-use borrow.Author.Rules.{rules}
 use Rattle.profile.proofs.four.largest.Goals as goal
 
 pub returns : goal.returns

@@ -1,7 +1,6 @@
 -- `less` meets its contract.
 use Rattle.profile.specs.Four.{less_of}
 use mathlib.Core.Path.{refl}
-use borrow.Author.Rules.{rules}
 use Rattle.profile.proofs.four.less.Goals as goal
 
 pub returns : goal.returns

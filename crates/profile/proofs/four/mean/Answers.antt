@@ -1,6 +1,5 @@
 -- `mean` meets its contract.
 use Rattle.profile.specs.Four.{mean_of}
-use borrow.Author.Rules.{rules}
 use Rattle.profile.proofs.four.mean.Goals as goal
 
 pub returns : goal.returns

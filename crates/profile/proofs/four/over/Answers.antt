@@ -1,7 +1,6 @@
 -- `over` meets its contract.
 use Rattle.profile.specs.Four.{over_of}
 use mathlib.Core.Path.{refl}
-use borrow.Author.Rules.{rules}
 use Rattle.profile.proofs.four.over.Goals as goal
 
 pub returns : goal.returns

@@ -1,7 +1,6 @@
 -- `products` meets its contract.
 use Rattle.profile.specs.Four.{products_of}
 use mathlib.Core.Path.{refl}
-use borrow.Author.Rules.{rules}
 use Rattle.profile.proofs.four.products.Goals as goal
 
 pub returns : goal.returns

@@ -1,7 +1,6 @@
 -- `profile_sum4` meets its contract.
 use Rattle.profile.specs.Four.{sum_of}
 use mathlib.Core.Path.{refl}
-use borrow.Author.Rules.{rules}
 use Rattle.profile.proofs.four.profile_sum4.Goals as goal
 
 pub returns : goal.returns

@@ -1,6 +1,5 @@
 -- `quotients` meets its contract.
 use Rattle.profile.specs.Four.{quotients_of}
-use borrow.Author.Rules.{rules}
 use Rattle.profile.proofs.four.quotients.Goals as goal
 
 pub returns : goal.returns

@@ -1,6 +1,5 @@
 -- `roots` meets its contract.
 use Rattle.profile.specs.Four.{roots_of}
-use borrow.Author.Rules.{rules}
 use Rattle.profile.proofs.four.roots.Goals as goal
 
 pub returns : goal.returns

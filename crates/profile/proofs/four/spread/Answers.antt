@@ -1,6 +1,5 @@
 -- `spread` meets its contract.
 use Rattle.profile.specs.Four.{spread_of}
-use borrow.Author.Rules.{rules}
 use Rattle.profile.proofs.four.spread.Goals as goal
 
 pub returns : goal.returns

@@ -1,6 +1,5 @@
 -- `squares` meets its contract.
 use Rattle.profile.specs.Four.{squares_of, products_of}
-use borrow.Author.Rules.{rules}
 use Rattle.profile.proofs.four.squares.Goals as goal
 
 pub returns : goal.returns

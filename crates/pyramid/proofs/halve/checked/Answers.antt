@@ -6,7 +6,6 @@ use Rattle.tables.proofs.RefusalLaws.{sides_most}
 use Rattle.pyramid.specs.Pyramid.{half_of, downsample_checks, needed}
 use Rattle.grid.proofs.GridLaws.{area}
 use Rattle.pyramid.proofs.HalvedLaws.{half_twice}
-use borrow.Author.Rules.{rules}
 use Rattle.pyramid.proofs.halve.checked.Goals as goal
 
 pub returns-then-rows-cols : goal.returns-then-rows-cols

@@ -1,10 +1,8 @@
 -- `halve::halve_column` meets its contract. The loop's invariant: the first r floats of the column are stored.
 use mathlib.Core.Path.{◌≡◌, refl}
-use Prim.Native.Nat.{◌≤◌, ◌-◌}
 use native.Mathlib.Omega.{arith}
-use Rattle.grid.specs.Grid.{list_of, Stored}
+use Rattle.grid.specs.Grid.{list_of}
 use Rattle.grid.proofs.StoredLaws.{stored-none, stored_next, stored-length}
-use Rattle.pyramid.specs.Pyramid.{second_of}
 use Rattle.pyramid.proofs.halve.halve_column.Goals as goal
 
 pub loop-r-init : goal.loop-r-init

@@ -1,10 +1,10 @@
 -- `halve::halve_level` meets its contract. The loop's invariant: the first c columns are stored.
 use mathlib.Core.Path.{◌≡◌}
-use Prim.Native.Nat.{◌+◌, ◌*◌, ◌≤◌, ◌-◌}
+use Prim.Native.Nat.{◌+◌, ◌*◌}
 use native.Mathlib.Numerals.{add-one}
 use native.Mathlib.Omega.{arith}
 use lib.ListN.{length}
-use Rattle.grid.specs.Grid.{pixel_at, columns_of, Stored}
+use Rattle.grid.specs.Grid.{pixel_at, columns_of}
 use Rattle.grid.proofs.GridLaws.{length-columns}
 use Rattle.grid.proofs.StoredLaws.{stored-none, stored-append, stored-length}
 use Rattle.pyramid.specs.Pyramid.{taken_of}

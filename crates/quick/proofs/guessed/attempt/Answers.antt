@@ -1,5 +1,5 @@
 -- `quick::guessed::attempt` meets its contract. Assumes nothing.
-use Rattle.std.proofs.Common.{ℕ, ◌+◌, ◌*◌, ◌/◌, ap, ◌∙◌, arith, rules}
+use Rattle.std.proofs.Common.{ℕ, ◌+◌, ◌*◌, ◌/◌, ap, ◌∙◌, arith}
 use Rattle.float.specs.Root.{near_root}
 use Rattle.quick.proofs.Normal.{exponent_of, digits_of, doubled_is, normal_pattern}
 use Rattle.quick.proofs.guessed.attempt.Goals as goal

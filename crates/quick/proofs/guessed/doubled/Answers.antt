@@ -1,5 +1,5 @@
 -- `quick::guessed::doubled` meets its contract. Assumes nothing.
-use Rattle.std.proofs.Common.{◌≡◌, ℕ, ◌+◌, Bool, true, false, cond, refl, ap, ◌∙◌, add-zero, arith, rules}
+use Rattle.std.proofs.Common.{◌≡◌, ℕ, ◌+◌, Bool, true, false, cond, refl, ap, ◌∙◌, add-zero, arith}
 use Rattle.quick.proofs.guessed.doubled.Goals as goal
 
 twice : (t : Bool) (m : ℕ) → m + cond t m 0 ≡ cond t (m + m) m

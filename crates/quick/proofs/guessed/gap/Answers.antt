@@ -1,5 +1,5 @@
 -- `quick::guessed::gap` meets its contract. Assumes nothing.
-use Rattle.std.proofs.Common.{arith, rules}
+use Rattle.std.proofs.Common.{arith}
 use Rattle.quick.proofs.Normal.{square_le}
 use Rattle.quick.proofs.guessed.gap.Goals as goal
 

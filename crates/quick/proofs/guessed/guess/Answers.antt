@@ -1,5 +1,5 @@
 -- `quick::guessed::guess` meets its contract. Assumes nothing.
-use Rattle.std.proofs.Common.{le_of_lt, arith, rules}
+use Rattle.std.proofs.Common.{le_of_lt, arith}
 use Rattle.float.proofs.Patterns.{not-nan_pattern}
 use Rattle.quick.proofs.guessed.guess.Goals as goal
 

@@ -1,5 +1,5 @@
 -- `quick::guessed::normal` meets its contract. Assumes nothing.
-use Rattle.std.proofs.Common.{ltb, leb, rules, ltb-true, leb-true}
+use Rattle.std.proofs.Common.{ltb, leb, ltb-true, leb-true}
 use Rattle.float.proofs.Bools.{both}
 use Rattle.quick.proofs.guessed.normal.Goals as goal
 

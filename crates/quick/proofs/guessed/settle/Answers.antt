@@ -1,5 +1,5 @@
 -- `quick::guessed::settle` meets its contract. Assumes nothing.
-use Rattle.std.proofs.Common.{arith, rules}
+use Rattle.std.proofs.Common.{arith}
 use Rattle.quick.proofs.Normal.{settled}
 use Rattle.quick.proofs.guessed.settle.Goals as goal
 

@@ -1,5 +1,5 @@
 -- `quick::guessed::sqrt` meets its contract. Assumes nothing.
-use Rattle.std.proofs.Common.{le_of_lt, rules}
+use Rattle.std.proofs.Common.{le_of_lt}
 use Rattle.float.proofs.Patterns.{not-nan_pattern}
 use Rattle.quick.proofs.guessed.sqrt.Goals as goal
 

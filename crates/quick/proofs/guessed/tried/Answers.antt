@@ -1,5 +1,5 @@
 -- `quick::guessed::tried` meets its contract. Assumes nothing.
-use Rattle.std.proofs.Common.{ℕ, ◌<◌, ◌≤◌, T, eqb, sym, ap, ◌∙◌, subst, eqb→eq, rules}
+use Rattle.std.proofs.Common.{ℕ, ◌<◌, ◌≤◌, T, eqb, sym, ap, ◌∙◌, subst, eqb→eq}
 use Rattle.float.proofs.Bools.{both}
 use Rattle.float.specs.Pattern.{units_of}
 use Rattle.float.specs.Sqrt.{root_pattern}

@@ -1,6 +1,5 @@
 -- `ends::accepts` meets its contract.
 use Rattle.rivals.specs.Ends.{accepted_of}
-use borrow.Author.Rules.{rules}
 use Rattle.rivals.proofs.ends.accepts.Goals as goal
 
 pub returns-in-Accepted : goal.returns-in-Accepted

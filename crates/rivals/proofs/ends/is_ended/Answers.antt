@@ -1,6 +1,5 @@
 -- `ends::is_ended` meets its contract.
 use Rattle.rivals.specs.Ends.{ended_of}
-use borrow.Author.Rules.{rules}
 use Rattle.rivals.proofs.ends.is_ended.Goals as goal
 
 pub returns : goal.returns

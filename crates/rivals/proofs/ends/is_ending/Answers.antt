@@ -1,6 +1,5 @@
 -- `ends::is_ending` meets its contract.
 use Rattle.rivals.specs.Ends.{ends}
-use borrow.Author.Rules.{rules}
 use Rattle.rivals.proofs.ends.is_ending.Goals as goal
 
 pub returns : goal.returns

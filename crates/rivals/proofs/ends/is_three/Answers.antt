@@ -1,5 +1,4 @@
 -- `ends::is_three` meets its contract.
-use borrow.Author.Rules.{rules}
 use Rattle.rivals.proofs.ends.is_three.Goals as goal
 
 pub returns : goal.returns

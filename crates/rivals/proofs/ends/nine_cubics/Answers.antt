@@ -1,7 +1,6 @@
 -- `ends::nine_cubics` meets its contract.
 use native.Mathlib.Omega.{arith}
 use Rattle.rivals.specs.Ends.{nine_in}
-use borrow.Author.Rules.{rules}
 use Rattle.rivals.proofs.ends.nine_cubics.Goals as goal
 
 pub overflow_add-z-4 : goal.overflow_add-z-4

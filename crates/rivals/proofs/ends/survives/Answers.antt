@@ -1,6 +1,5 @@
 -- `ends::survives` meets its contract.
 use Rattle.rivals.specs.Ends.{survives_of}
-use borrow.Author.Rules.{rules}
 use Rattle.rivals.proofs.ends.survives.Goals as goal
 
 pub returns-then-is_ended : goal.returns-then-is_ended

@@ -1,6 +1,5 @@
 -- `near::is_reached` meets its contract.
 use Rattle.rivals.specs.Near.{reached_of}
-use borrow.Author.Rules.{rules}
 use Rattle.rivals.proofs.near.is_reached.Goals as goal
 
 pub returns : goal.returns

@@ -1,5 +1,4 @@
 -- `near::is_three` meets its contract.
-use borrow.Author.Rules.{rules}
 use Rattle.rivals.proofs.near.is_three.Goals as goal
 
 pub returns : goal.returns

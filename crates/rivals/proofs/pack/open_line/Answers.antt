@@ -1,12 +1,6 @@
 -- `pack::open_line` meets its contract. The loop's invariant: the first i entries are written.
 use mathlib.Core.Path.{◌≡◌}
-use mathlib.Core.Bool.{cond}
-use Prim.Native.Nat.{◌+◌, ◌≤◌, ◌-◌}
 use native.Mathlib.Omega.{arith}
-use lib.Dec.{leb}
-use lib.ListN.{get_or}
-use borrow.Author.Rules.{rules}
-use Rattle.columns.specs.Line.{Written}
 use Rattle.columns.proofs.LineLaws.{written_none, written_next}
 use Rattle.rivals.proofs.pack.open_line.Goals as goal
 

@@ -1,9 +1,6 @@
 -- `pack::pack_line` meets its contract. The loop's invariant: the codes of the first i pixels are packed.
 use mathlib.Core.Path.{◌≡◌}
-use Prim.Native.Nat.{◌≤◌, ◌-◌}
 use native.Mathlib.Omega.{arith}
-use borrow.Author.Rules.{rules}
-use Rattle.rivals.specs.List.{Packed}
 use Rattle.rivals.proofs.ListLaws.{packed_none, packed_more}
 use Rattle.rivals.proofs.pack.pack_line.Goals as goal
 

@@ -2,7 +2,6 @@
 use mathlib.Core.Path.{◌∙◌}
 use native.Mathlib.Omega.{arith}
 use Rattle.rivals.proofs.ThinLaws.{thin_listed}
-use borrow.Author.Rules.{rules}
 use Rattle.rivals.proofs.thin.listed.Goals as goal
 
 pub stat_list-k-requires : goal.stat_list-k-requires

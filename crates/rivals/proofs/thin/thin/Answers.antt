@@ -3,7 +3,6 @@ use mathlib.Core.Path.{subst}
 use Prim.Native.Nat.{ℕ, ◌+◌, ◌≤◌}
 use lib.ListN.{get_or}
 use Rattle.rivals.proofs.ThinLaws.{thin_none}
-use borrow.Author.Rules.{rules}
 use Rattle.rivals.proofs.thin.thin.Goals as goal
 
 pub returns-then-any-eq0 : goal.returns-then-any-eq0

@@ -4,7 +4,6 @@ use Prim.Native.Nat.{◌+◌, ◌*◌}
 use native.Mathlib.Omega.{arith}
 use Rattle.float.proofs.Floats.{nan_is}
 use Rattle.samples.proofs.ViewLaws.{none_after, same_after}
-use borrow.Author.Rules.{rules}
 use Rattle.samples.proofs.view.float_after.Goals as goal
 
 pub returns-then-level-p : goal.returns-then-level-p

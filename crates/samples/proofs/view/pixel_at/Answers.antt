@@ -2,7 +2,6 @@
 use mathlib.Core.Path.{◌∙◌}
 use native.Mathlib.Nat.{add-zero}
 use Rattle.grid.specs.Grid.{pixel_at}
-use borrow.Author.Rules.{rules}
 use Rattle.samples.proofs.view.pixel_at.Goals as goal
 
 pub returns : goal.returns

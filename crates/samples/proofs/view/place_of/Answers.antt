@@ -4,7 +4,6 @@ use Prim.Native.Nat.{◌+◌, ◌*◌, ◌≤◌}
 use native.Mathlib.Nat.{mul-zero}
 use native.Mathlib.Omega.{arith}
 use Rattle.samples.proofs.ViewLaws.{place-past, place_inside}
-use borrow.Author.Rules.{rules}
 use Rattle.samples.proofs.view.place_of.Goals as goal
 use Rattle.samples.proofs.view.place_of.Goals.{Else-n-row-2}
 

@@ -1,7 +1,6 @@
 -- `view::sample_at` meets its contract: its five floats are the sample's five pixels.
 use Rattle.samples.specs.Level.{stencil_of}
 use Rattle.samples.proofs.ViewLaws.{sample_around}
-use borrow.Author.Rules.{rules}
 use Rattle.samples.proofs.view.sample_at.Goals as goal
 
 pub returns : goal.returns

@@ -1,6 +1,5 @@
 -- `edge::passes_edge` meets its contract.
 use Rattle.spatial.specs.Edge.{edge_of}
-use borrow.Author.Rules.{rules}
 use Rattle.spatial.proofs.edge.passes_edge.Goals as goal
 
 pub returns : goal.returns

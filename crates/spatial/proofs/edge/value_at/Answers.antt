@@ -1,7 +1,6 @@
 -- `edge::value_at` meets its contract.
 use Rattle.spatial.specs.Edge.{value_of}
 use mathlib.Core.Path.{refl}
-use borrow.Author.Rules.{rules}
 use Rattle.spatial.proofs.edge.value_at.Goals as goal
 
 -- index-1-result : tie.Need-bounds-1-result

@@ -1,6 +1,5 @@
 -- `edge::values_at` meets its contract.
 use Rattle.spatial.specs.Edge.{values_of}
-use borrow.Author.Rules.{rules}
 use Rattle.spatial.proofs.edge.values_at.Goals as goal
 
 pub returns : goal.returns

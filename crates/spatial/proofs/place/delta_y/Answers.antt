@@ -1,6 +1,5 @@
 -- `place::delta_y` meets its contract.
 use Rattle.spatial.specs.Place.{delta_yOf}
-use borrow.Author.Rules.{rules}
 use Rattle.spatial.proofs.place.delta_y.Goals as goal
 
 pub returns : goal.returns

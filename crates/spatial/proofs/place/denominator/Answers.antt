@@ -1,7 +1,6 @@
 -- `place::denominator` meets its contract.
 use Rattle.spatial.specs.Place.{denominator_of}
 use mathlib.Core.Path.{refl}
-use borrow.Author.Rules.{rules}
 use Rattle.spatial.proofs.place.denominator.Goals as goal
 
 pub returns : goal.returns

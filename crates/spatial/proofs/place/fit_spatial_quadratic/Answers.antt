@@ -2,7 +2,6 @@
 use Rattle.spatial.specs.Place.{spatial_by}
 use Rattle.spatial.proofs.FitSteps.{row_ordered}
 use mathlib.Core.Path.{◌∙◌}
-use borrow.Author.Rules.{rules}
 use Rattle.spatial.proofs.place.fit_spatial_quadratic.Goals as goal
 
 pub returns : goal.returns

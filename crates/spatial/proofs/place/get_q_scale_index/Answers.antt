@@ -1,6 +1,5 @@
 -- `place::get_q_scale_index` meets its contract.
 use Rattle.spatial.specs.Place.{index_of}
-use borrow.Author.Rules.{rules}
 use Rattle.spatial.proofs.place.get_q_scale_index.Goals as goal
 
 pub returns-then-sigma-sigmas : goal.returns-then-sigma-sigmas

@@ -1,6 +1,5 @@
 -- `place::is_steep` meets its contract.
 use Rattle.spatial.specs.Place.{steep_of}
-use borrow.Author.Rules.{rules}
 use Rattle.spatial.proofs.place.is_steep.Goals as goal
 
 pub returns : goal.returns

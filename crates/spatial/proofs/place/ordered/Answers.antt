@@ -1,7 +1,6 @@
 -- `place::ordered` meets its contract.
 use Rattle.spatial.proofs.FitSteps.{nine_ordered}
 use native.Mathlib.Omega.{arith}
-use borrow.Author.Rules.{rules}
 use Rattle.spatial.proofs.place.ordered.Goals as goal
 
 pub returns : goal.returns

@@ -3,9 +3,6 @@ use Rattle.spatial.specs.Place.{sum_from}
 use Rattle.spatial.proofs.FitSteps.{sum_turn}
 use mathlib.Core.Path.{◌≡◌, refl, sym, ◌∙◌}
 use native.Mathlib.Omega.{arith}
-use Prim.Native.Nat.{◌≤◌, ◌-◌, ◌+◌, ◌*◌}
-use Rattle.float.specs.Num.{◌⊗◌, f0}
-use Rattle.fit.specs.Cubic.{◌at◌}
 use Rattle.spatial.proofs.place.row_sum.Goals as goal
 
 pub overflow_mul-base : goal.overflow_mul-base

@@ -1,8 +1,6 @@
 -- `place::row_sum` meets its contract. The loop keeps that what is summed and what is left make the whole row's sum.
 use Rattle.spatial.specs.Place.{sum_from}
-use Rattle.spatial.proofs.FitSteps.{sum_turn}
-use mathlib.Core.Path.{◌≡◌, refl, sym, ◌∙◌}
-use native.Mathlib.Omega.{arith}
+use mathlib.Core.Path.{◌≡◌}
 use Prim.Native.Nat.{◌≤◌, ◌-◌, ◌+◌, ◌*◌}
 use Rattle.float.specs.Num.{◌⊗◌, f0}
 use Rattle.fit.specs.Cubic.{◌at◌}

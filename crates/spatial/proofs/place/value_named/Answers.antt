@@ -4,7 +4,6 @@ use native.Mathlib.Omega.{arith}
 use lib.ListN.{length, get_or-eq_default}
 use Prim.Native.Nat.{◌≤◌}
 use lib.Ieee.{nan, div, of_bits}
-use borrow.Author.Rules.{rules}
 use Rattle.spatial.proofs.place.value_named.Goals as goal
 
 pub returns-then-i-v : goal.returns-then-i-v

@@ -1,14 +1,8 @@
 -- `all_finite` meets its contract.
-use mathlib.Core.Path.{◌≡◌, refl, sym, ◌∙◌}
+use mathlib.Core.Path.{◌≡◌}
 use Prim.Native.Nat.{◌≤◌, ◌-◌}
-use native.Mathlib.Omega.{arith}
-use borrow.Author.Rules.{rules}
-use borrow.Author.Tests.{not-true, not-false}
 use lib.ListN.{length, drop}
-use lib.Ieee.{nan}
-use Rattle.float.specs.Small.{finite}
 use Rattle.tables.specs.Set.{all_finite}
-use Rattle.tables.proofs.Loops.{every-next, every-fails, every-ends}
 use Rattle.tables.proofs.good.all_finite.Given as goal
 
 abbrev pub invariant-loop-i : goal.invariant-loop-i

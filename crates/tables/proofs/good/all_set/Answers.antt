@@ -1,6 +1,5 @@
 -- `all_set` meets its contract.
 use Rattle.tables.specs.Set.{all_set}
-use borrow.Author.Rules.{rules}
 use Rattle.tables.proofs.good.all_set.Goals as goal
 
 pub returns : goal.returns

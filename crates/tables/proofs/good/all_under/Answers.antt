@@ -1,11 +1,7 @@
 -- `all_under` meets its contract.
-use mathlib.Core.Path.{◌≡◌, refl, sym}
-use Prim.Native.Nat.{◌≤◌, ◌-◌}
+use mathlib.Core.Path.{refl, sym}
 use native.Mathlib.Omega.{arith}
-use borrow.Author.Rules.{rules}
 use borrow.Author.Tests.{lt-ltb, le-ltb}
-use lib.ListN.{length, drop}
-use Rattle.tables.specs.Set.{all_under}
 use Rattle.tables.proofs.Loops.{every-next, every-fails, every-ends}
 use Rattle.tables.proofs.good.all_under.Goals as goal
 

@@ -7,7 +7,6 @@ use lib.Ieee.{Float}
 use Rattle.tables.specs.declared.Set.{Set}
 use Rattle.words.specs.Words.{floats_at}
 use Rattle.tables.specs.Set.{set_of}
-use borrow.Author.Rules.{rules}
 use Rattle.tables.proofs.reader.set_of.Goals as goal
 
 -- six tables read from their places are the record's set

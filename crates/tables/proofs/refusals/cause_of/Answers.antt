@@ -1,6 +1,5 @@
 -- `cause_of` meets its contract.
 use Rattle.tables.specs.Refusal.{cause_of}
-use borrow.Author.Rules.{rules}
 use Rattle.tables.proofs.refusals.cause_of.Goals as goal
 
 pub returns-in-Polarity : goal.returns-in-Polarity

@@ -1,6 +1,5 @@
 -- `number_of` meets its contract.
 use Rattle.tables.specs.Refusal.{number}
-use borrow.Author.Rules.{rules}
 use Rattle.tables.proofs.refusals.number_of.Goals as goal
 
 pub returns-in-Size : goal.returns-in-Size

@@ -1,6 +1,5 @@
 -- `value_of` meets its contract.
 use Rattle.tables.specs.Refusal.{value}
-use borrow.Author.Rules.{rules}
 use Rattle.tables.proofs.refusals.value_of.Goals as goal
 
 pub returns-in-Records : goal.returns-in-Records

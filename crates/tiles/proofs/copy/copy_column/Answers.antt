@@ -1,9 +1,9 @@
 -- `copy::copy_column` meets its contract. The loop's invariant: the first r floats are stored.
 use mathlib.Core.Path.{◌≡◌, refl, ap, ◌∙◌}
-use Prim.Native.Nat.{◌+◌, ◌≤◌, ◌-◌}
+use Prim.Native.Nat.{◌+◌, ◌≤◌}
 use native.Mathlib.Omega.{arith}
 use lib.ListN.{length, take, drop}
-use lib.Seq.{sets, length-sets}
+use lib.Seq.{length-sets}
 use lib.Ieee.{nan}
 use Rattle.words.proofs.Parts.{copied_next}
 use Rattle.tiles.proofs.copy.copy_column.Goals as goal

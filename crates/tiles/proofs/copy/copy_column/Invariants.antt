@@ -1,11 +1,8 @@
 -- `copy::copy_column` meets its contract. The loop's invariant: the first r floats are stored.
-use mathlib.Core.Path.{◌≡◌, refl, ap, ◌∙◌}
-use Prim.Native.Nat.{◌+◌, ◌≤◌, ◌-◌}
-use native.Mathlib.Omega.{arith}
-use lib.ListN.{length, take, drop}
-use lib.Seq.{sets, length-sets}
-use lib.Ieee.{nan}
-use Rattle.words.proofs.Parts.{copied_next}
+use mathlib.Core.Path.{◌≡◌}
+use Prim.Native.Nat.{◌≤◌, ◌-◌}
+use lib.ListN.{take, drop}
+use lib.Seq.{sets}
 use Rattle.tiles.proofs.copy.copy_column.Given as goal
 
 abbrev pub invariant-loop-r : goal.invariant-loop-r

@@ -1,9 +1,8 @@
 -- `copy::copy_tile` meets its contract. The loop's invariant: the first c columns are stored.
 use mathlib.Core.Path.{◌≡◌, refl, ap, ◌∙◌}
-use Prim.Native.Nat.{◌≤◌, ◌-◌}
 use native.Mathlib.Omega.{arith}
 use lib.ListN.{length}
-use lib.Seq.{sets, length-sets}
+use lib.Seq.{length-sets}
 use Rattle.tiles.specs.Copy.{gather, tile_level}
 use Rattle.tiles.proofs.CopyLaws.{cut_column, tile-next}
 use Rattle.tiles.proofs.copy.copy_tile.Goals as goal

@@ -1,11 +1,8 @@
 -- `copy::copy_tile` meets its contract. The loop's invariant: the first c columns are stored.
-use mathlib.Core.Path.{◌≡◌, refl, ap, ◌∙◌}
+use mathlib.Core.Path.{◌≡◌}
 use Prim.Native.Nat.{◌≤◌, ◌-◌}
-use native.Mathlib.Omega.{arith}
-use lib.ListN.{length}
-use lib.Seq.{sets, length-sets}
-use Rattle.tiles.specs.Copy.{gather, tile_level}
-use Rattle.tiles.proofs.CopyLaws.{cut_column, tile-next}
+use lib.Seq.{sets}
+use Rattle.tiles.specs.Copy.{tile_level}
 use Rattle.tiles.proofs.copy.copy_tile.Given as goal
 
 abbrev pub invariant-loop-c : goal.invariant-loop-c
