@@ -3,6 +3,7 @@
  * that is due. Proved in Rattle; see docs/PROMISES.md.
  *
  * Link with libalp_c.a (`tests/staticlib alp_c` writes target/staticlib/libalp_c.a); it needs nothing else.
+ * Its code is for x86-64-v2 processors, and does not ask the one that it runs on.
  * Every call ends, whatever it is given. A slice is a pointer and its length in elements; a pointer must be valid for that length, and what is written to
  * must overlap nothing else.
  *

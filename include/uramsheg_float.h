@@ -1,6 +1,7 @@
 /* Uramsheg's float helpers: f32 functions with one fixed answer for every input, proved in Rattle.
  *
  * Link with libfloat_c.a (`tests/staticlib float_c` writes target/staticlib/libfloat_c.a); it needs nothing else.
+ * Its code is for x86-64-v2 processors, and does not ask the one that it runs on.
  * Every function takes every float, NaN and the infinities too, and always returns.
  * A NaN answer is some NaN: compare with `isnan`, not by its bits.
  */

@@ -7,8 +7,7 @@ use tables::Thresholds;
 
 // Whether the list is the one that is due for the four levels, under the set in the record set. Answers 0, with what was found in finding and the index of the
 // first record that differs in value; or the refusal's number, with 0 in finding and the value that goes with it in value.
-#[unsafe(no_mangle)]
-pub extern "C" fn uramsheg_accept<'a>(
+pub fn uramsheg_accept<'a>(
     set: &'a [u8],
     peak: f32,
     sigma: f32,

@@ -7,24 +7,21 @@ ghost use Rattle.face_desks.specs.Face.{table_left, call_face, run_face};
 use tables::Thresholds;
 
 // Claims a free slot of the table for a desk. Answers 0, or the refusal's number, with the table as it was.
-#[unsafe(no_mangle)]
-pub extern "C" fn uramsheg_desk_claim(table: &mut [u8], desk: usize, slot: usize) -> u32
+pub fn uramsheg_desk_claim(table: &mut [u8], desk: usize, slot: usize) -> u32
     ensures { table_left result table.new ≡ call_face Claim table.old desk slot }
 {
     face_desks::claim(table, desk, slot)
 }
 
 // Writes a set record into a slot of the desk's own. Answers 0, or the refusal's number, with the table as it was.
-#[unsafe(no_mangle)]
-pub extern "C" fn uramsheg_desk_write(table: &mut [u8], desk: usize, slot: usize, set: &[u8]) -> u32
+pub fn uramsheg_desk_write(table: &mut [u8], desk: usize, slot: usize, set: &[u8]) -> u32
     ensures { table_left result table.new ≡ call_face (Write set.now) table.old desk slot }
 {
     face_desks::write(table, desk, slot, set)
 }
 
 // Gives a slot of the desk's own back. Answers 0, or the refusal's number, with the table as it was.
-#[unsafe(no_mangle)]
-pub extern "C" fn uramsheg_desk_release(table: &mut [u8], desk: usize, slot: usize) -> u32
+pub fn uramsheg_desk_release(table: &mut [u8], desk: usize, slot: usize) -> u32
     ensures { table_left result table.new ≡ call_face Release table.old desk slot }
 {
     face_desks::release(table, desk, slot)
@@ -32,8 +29,7 @@ pub extern "C" fn uramsheg_desk_release(table: &mut [u8], desk: usize, slot: usi
 
 // Lists the spots of four levels in the buffer out, under the set that stands in a slot of the table. Answers 0, with the count in value, or the refusal's
 // number, with the value that goes with it in value.
-#[unsafe(no_mangle)]
-pub extern "C" fn uramsheg_desk_run<'a>(
+pub fn uramsheg_desk_run<'a>(
     table: &'a [u8],
     slot: usize,
     peak: f32,

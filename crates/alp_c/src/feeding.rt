@@ -7,8 +7,7 @@ ghost use Rattle.face.specs.Face.{thresholds_of};
 use tables::Thresholds;
 
 // Begins a feed under the set in the record set, and writes its state. Answers 0, or the refusal's number.
-#[unsafe(no_mangle)]
-pub extern "C" fn uramsheg_feed_start<'a>(
+pub fn uramsheg_feed_start<'a>(
     set: &'a [u8],
     peak: f32,
     sigma: f32,
@@ -39,8 +38,7 @@ pub extern "C" fn uramsheg_feed_start<'a>(
 }
 
 // Gives the next column of each level. Answers 0, with the count in value, or the refusal's number, with 0 in value.
-#[unsafe(no_mangle)]
-pub extern "C" fn uramsheg_feed_column<'a>(
+pub fn uramsheg_feed_column<'a>(
     state: &mut [u8],
     c0: &'a [f32],
     c1: &'a [f32],

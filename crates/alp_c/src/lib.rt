@@ -1,5 +1,6 @@
 // The C face of the detector: thin, each function one call.
 #![tactic(auto)]
+
 mod accepting; // accepting.rt: a partner's list
 mod desking; // desking.rt: the table that two desks share
 mod feeding; // feeding.rt: the feed of columns
@@ -29,8 +30,7 @@ use tables::Thresholds;
 
 // Lists the spots of four levels in the buffer out, under the set in the record set. Answers 0, with the count in value, or the refusal's number, with
 // the value that goes with it in value.
-#[unsafe(no_mangle)]
-pub extern "C" fn uramsheg_detect<'a>(
+pub fn uramsheg_detect<'a>(
     set: &'a [u8],
     peak: f32,
     sigma: f32,
@@ -62,8 +62,7 @@ pub extern "C" fn uramsheg_detect<'a>(
 }
 
 // Whether the record holds a good set: 0, or 4 where it is refused.
-#[unsafe(no_mangle)]
-pub extern "C" fn uramsheg_set_check(set: &[u8]) -> u32
+pub fn uramsheg_set_check(set: &[u8]) -> u32
     ensures { result ≡ check_face (read_set_of set.now).answer }
 {
     face::set_check(set)
@@ -71,8 +70,7 @@ pub extern "C" fn uramsheg_set_check(set: &[u8]) -> u32
 
 // Sizes the records of a list found on a map of rows by cols, in the buffer out, under the set in the record set. Answers 0, with the count in value,
 // or the refusal's number, with the value that goes with it in value.
-#[unsafe(no_mangle)]
-pub extern "C" fn uramsheg_join<'a>(
+pub fn uramsheg_join<'a>(
     set: &'a [u8],
     rows: usize,
     cols: usize,
@@ -87,8 +85,7 @@ pub extern "C" fn uramsheg_join<'a>(
 }
 
 // The same of an old list, whose records have 40 bytes and their sized ones 52.
-#[unsafe(no_mangle)]
-pub extern "C" fn uramsheg_join_old<'a>(
+pub fn uramsheg_join_old<'a>(
     set: &'a [u8],
     rows: usize,
     cols: usize,
@@ -104,8 +101,7 @@ pub extern "C" fn uramsheg_join_old<'a>(
 
 // Corrects the sigma of a spot with these samples under the set in the record set. Answers 0, with the corrected sigma in corrected and 0 in cause, or the
 // refusal's number, with the value that goes with it in cause and corrected neither read nor written.
-#[unsafe(no_mangle)]
-pub extern "C" fn uramsheg_correct(
+pub fn uramsheg_correct(
     set: &[u8],
     s0: f32,
     s1: f32,
@@ -123,8 +119,7 @@ pub extern "C" fn uramsheg_correct(
 }
 
 // How many octaves a map of these sides has.
-#[unsafe(no_mangle)]
-pub extern "C" fn uramsheg_octave_count(rows: usize, cols: usize) -> u32
+pub fn uramsheg_octave_count(rows: usize, cols: usize) -> u32
     ensures { result ≡ octave_count_of rows cols }
 {
     face_halve::octave_count(rows, cols)
@@ -132,8 +127,7 @@ pub extern "C" fn uramsheg_octave_count(rows: usize, cols: usize) -> u32
 
 // Halves a level into the buffer out. Answers 0, with the new sides in halfrows and halfcols, or the refusal's number, with both neither read nor
 // written.
-#[unsafe(no_mangle)]
-pub extern "C" fn uramsheg_downsample(
+pub fn uramsheg_downsample(
     rows: usize,
     cols: usize,
     level: &[f32],
@@ -148,8 +142,7 @@ pub extern "C" fn uramsheg_downsample(
 }
 
 // Makes the four levels of a raw map at the starts of the buffers l0 to l3, under the set in the record set. Answers 0, or the refusal's number.
-#[unsafe(no_mangle)]
-pub extern "C" fn uramsheg_levels(
+pub fn uramsheg_levels(
     set: &[u8],
     rows: usize,
     cols: usize,

@@ -7,8 +7,7 @@ use tables::Thresholds;
 
 // Lists the spots of a scene in the buffer out, under the set in the record set; each tile is copied into the slices t0 to t3. Answers 0, with the count in
 // value, 6 with the whole tiles written in value, or the refusal's number, with the value that goes with it in value.
-#[unsafe(no_mangle)]
-pub extern "C" fn uramsheg_scene<'a>(
+pub fn uramsheg_scene<'a>(
     set: &'a [u8],
     peak: f32,
     sigma: f32,

@@ -5,8 +5,7 @@ ghost use Rattle.face.specs.Face.{left};
 ghost use Rattle.face_store.specs.Face.{store_face};
 
 // Frees every slot of the store. Answers 0, with 0 in value, or the refusal's number, with the value that goes with it in value and the store as it was.
-#[unsafe(no_mangle)]
-pub extern "C" fn uramsheg_store_clear(store: &mut [u8], value: &mut u64) -> u32
+pub fn uramsheg_store_clear(store: &mut [u8], value: &mut u64) -> u32
     ensures { left result value.new store.new ≡ store_face Clear store.old }
 {
     face_store::clear(store, value)
@@ -14,8 +13,7 @@ pub extern "C" fn uramsheg_store_clear(store: &mut [u8], value: &mut u64) -> u32
 
 // Puts a record into the lowest free slot. Answers 0, with the slot in value, or the refusal's number, with the value that goes with it in value and the store
 // as it was.
-#[unsafe(no_mangle)]
-pub extern "C" fn uramsheg_store_add(
+pub fn uramsheg_store_add(
     store: &mut [u8],
     rows: usize,
     cols: usize,
@@ -28,8 +26,7 @@ pub extern "C" fn uramsheg_store_add(
 }
 
 // Frees a slot. Answers 0, with 0 in value, or the refusal's number, with the value that goes with it in value and the store as it was.
-#[unsafe(no_mangle)]
-pub extern "C" fn uramsheg_store_strike(
+pub fn uramsheg_store_strike(
     store: &mut [u8],
     rows: usize,
     cols: usize,
@@ -43,13 +40,7 @@ pub extern "C" fn uramsheg_store_strike(
 
 // Moves the live records down in their order and frees the rest. Answers 0, with the live number in value, or the refusal's number, with the value that goes
 // with it in value and the store as it was.
-#[unsafe(no_mangle)]
-pub extern "C" fn uramsheg_store_close_up(
-    store: &mut [u8],
-    rows: usize,
-    cols: usize,
-    value: &mut u64,
-) -> u32
+pub fn uramsheg_store_close_up(store: &mut [u8], rows: usize, cols: usize, value: &mut u64) -> u32
     ensures { left result value.new store.new ≡ store_face (CloseUp rows cols) store.old }
 {
     face_store::close_up(store, rows, cols, value)

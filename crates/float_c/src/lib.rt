@@ -8,64 +8,55 @@ ghost use Rattle.logexp.specs.Log.{log2_of};
 ghost use Rattle.logexp.specs.Exp.{exp_of};
 ghost use Rattle.whole.specs.Nearest.{nearest_of};
 
-#[unsafe(no_mangle)]
-pub extern "C" fn uramsheg_abs(x: f32) -> f32
+pub fn uramsheg_abs(x: f32) -> f32
     ensures { result ≡ abs_of x }
 {
     float::abs(x)
 }
 
-#[unsafe(no_mangle)]
-pub extern "C" fn uramsheg_min(a: f32, b: f32) -> f32
+pub fn uramsheg_min(a: f32, b: f32) -> f32
     ensures { result ≡ min_of a b }
 {
     float::min(a, b)
 }
 
-#[unsafe(no_mangle)]
-pub extern "C" fn uramsheg_max(a: f32, b: f32) -> f32
+pub fn uramsheg_max(a: f32, b: f32) -> f32
     ensures { result ≡ max_of a b }
 {
     float::max(a, b)
 }
 
-#[unsafe(no_mangle)]
-pub extern "C" fn uramsheg_clamp(x: f32, low: f32, high: f32) -> f32
+pub fn uramsheg_clamp(x: f32, low: f32, high: f32) -> f32
     ensures { result ≡ clamp_of x low high }
 {
     float::clamp(x, low, high)
 }
 
-#[unsafe(no_mangle)]
-pub extern "C" fn uramsheg_is_finite(x: f32) -> bool
+pub fn uramsheg_is_finite(x: f32) -> bool
     ensures { result ≡ finite x }
 {
     float::is_finite(x)
 }
 
-#[unsafe(no_mangle)]
-pub extern "C" fn uramsheg_sqrt(x: f32) -> f32
+pub fn uramsheg_sqrt(x: f32) -> f32
     ensures { result ≡ sqrt_of x }
 {
     float::sqrt(x)
 }
 
-#[unsafe(no_mangle)]
-pub extern "C" fn uramsheg_log2(x: f32) -> f32
+pub fn uramsheg_log2(x: f32) -> f32
     ensures { result ≡ log2_of x }
 {
     logexp::log2(x)
 }
 
-#[unsafe(no_mangle)]
-pub extern "C" fn uramsheg_exp(x: f32) -> f32
+pub fn uramsheg_exp(x: f32) -> f32
     ensures { result ≡ exp_of x }
 {
     logexp::exp(x)
 }
 
-#[unsafe(no_mangle)]
-pub extern "C" fn uramsheg_nearest(x: f32) -> u32
+pub fn uramsheg_nearest(x: f32) -> u32
     ensures { result ≡ nearest_of x }
 {
     whole::nearest(x)

@@ -42,15 +42,13 @@ fn part(k: Kernel, i: usize) -> f32
     parts::number_at(&k.taps, i - 1)
 }
 
-#[unsafe(no_mangle)]
-pub extern "C" fn probe_gaussian(sigma: f32, i: usize) -> f32
+pub fn probe_gaussian(sigma: f32, i: usize) -> f32
     ensures { result ≡ kernel_part (gaussian_of sigma) i }
 {
     part(kernels::gauss::gaussian(sigma), i)
 }
 
-#[unsafe(no_mangle)]
-pub extern "C" fn probe_kernel(octave: usize, third: f32, target: f32, i: usize) -> f32
+pub fn probe_kernel(octave: usize, third: f32, target: f32, i: usize) -> f32
     ensures { result ≡ kernel_part (kernel_to octave third target) i }
 {
     part(kernels::gauss::octave_kernel(octave, third, target), i)
@@ -78,8 +76,7 @@ fn misfit(
 }
 
 // Two levels by two kernels given: true, or false and nothing written.
-#[unsafe(no_mangle)]
-pub extern "C" fn probe_blur(
+pub fn probe_blur(
     radius: usize,
     taps: &[f32],
     radius2: usize,

@@ -1,6 +1,7 @@
 // The inner functions for the tests alone, to be compared with the published Rust one by one: offered to nobody else.
 // Each takes plain numbers and the record of a set, and answers one number: the i-th where the result has several, NaN past the end.
 #![tactic(auto)]
+
 ghost use Rattle.std.specs.Prelude.{◌≡◌, [], ◌∷◌};
 ghost use Rattle.float.specs.Sqrt.{sqrt_of};
 ghost use Rattle.fit.specs.Cubic.{horner_of};
@@ -13,38 +14,26 @@ mod blurs; // blurs.rt: kernels, and levels by kernels given
 
 pub use blurs::{probe_blur, probe_gaussian, probe_kernel};
 
-#[unsafe(no_mangle)]
-pub extern "C" fn probe_cubic(
-    set: &[u8],
-    geometry: bool,
-    l0: f32,
-    l1: f32,
-    l2: f32,
-    l3: f32,
-    i: usize,
-) -> f32
+pub fn probe_cubic(set: &[u8], geometry: bool, l0: f32, l1: f32, l2: f32, l3: f32, i: usize) -> f32
     ensures { result ≡ cubic_of set.now geometry (l0 ∷ l1 ∷ l2 ∷ l3 ∷ []) i }
 {
     let k = parts::cubic(parts::held_in(set), geometry, [l0, l1, l2, l3]);
     parts::number_at(&k, i)
 }
 
-#[unsafe(no_mangle)]
-pub extern "C" fn probe_quick(x: f32) -> f32
+pub fn probe_quick(x: f32) -> f32
     ensures { result ≡ sqrt_of x }
 {
     quick::sqrt(x)
 }
 
-#[unsafe(no_mangle)]
-pub extern "C" fn probe_horner(a: f32, b: f32, c: f32, d: f32, s: f32) -> f32
+pub fn probe_horner(a: f32, b: f32, c: f32, d: f32, s: f32) -> f32
     ensures { result ≡ horner_of (a ∷ b ∷ c ∷ d ∷ []) s }
 {
     fit::scale_fit::horner([a, b, c, d], s)
 }
 
-#[unsafe(no_mangle)]
-pub extern "C" fn probe_band(set: &[u8], sigma: f32, high: bool) -> f32
+pub fn probe_band(set: &[u8], sigma: f32, high: bool) -> f32
     ensures { result ≡ end_of set.now sigma high }
 {
     let held = parts::held_in(set);
@@ -53,30 +42,19 @@ pub extern "C" fn probe_band(set: &[u8], sigma: f32, high: bool) -> f32
     parts::pick(high, band.high, band.low)
 }
 
-#[unsafe(no_mangle)]
-pub extern "C" fn probe_extreme(
-    a: f32,
-    b: f32,
-    c: f32,
-    d: f32,
-    low: f32,
-    high: f32,
-    is_max: bool,
-) -> f32
+pub fn probe_extreme(a: f32, b: f32, c: f32, d: f32, low: f32, high: f32, is_max: bool) -> f32
     ensures { result ≡ extreme_of (a ∷ b ∷ c ∷ d ∷ []) low high is_max }
 {
     fit::scale_fit::band_extreme([a, b, c, d], low, high, is_max)
 }
 
-#[unsafe(no_mangle)]
-pub extern "C" fn probe_owns(l0: f32, l1: f32, l2: f32, l3: f32, is_max: bool) -> bool
+pub fn probe_owns(l0: f32, l1: f32, l2: f32, l3: f32, is_max: bool) -> bool
     ensures { result ≡ owns_of (l0 ∷ l1 ∷ l2 ∷ l3 ∷ []) is_max }
 {
     fit::scale_fit::owns_scale_extremum([l0, l1, l2, l3], is_max)
 }
 
-#[unsafe(no_mangle)]
-pub extern "C" fn probe_envelope(set: &[u8], l0: f32, l1: f32, l2: f32, l3: f32, i: usize) -> f32
+pub fn probe_envelope(set: &[u8], l0: f32, l1: f32, l2: f32, l3: f32, i: usize) -> f32
     ensures { result ≡ envelope_part set.now (l0 ∷ l1 ∷ l2 ∷ l3 ∷ []) i }
 {
     let held = parts::held_in(set);
@@ -86,17 +64,7 @@ pub extern "C" fn probe_envelope(set: &[u8], l0: f32, l1: f32, l2: f32, l3: f32,
     parts::number_at(&list, i)
 }
 
-#[unsafe(no_mangle)]
-pub extern "C" fn probe_extrema(
-    set: &[u8],
-    a: f32,
-    b: f32,
-    c: f32,
-    d: f32,
-    l0: f32,
-    l3: f32,
-    i: usize,
-) -> f32
+pub fn probe_extrema(set: &[u8], a: f32, b: f32, c: f32, d: f32, l0: f32, l3: f32, i: usize) -> f32
     ensures { result ≡ extrema_part set.now (a ∷ b ∷ c ∷ d ∷ []) l0 l3 i }
 {
     let held = parts::held_in(set);
@@ -106,8 +74,7 @@ pub extern "C" fn probe_extrema(
     parts::number_at(&list, i)
 }
 
-#[unsafe(no_mangle)]
-pub extern "C" fn probe_index(set: &[u8], sigma: f32) -> u8
+pub fn probe_index(set: &[u8], sigma: f32) -> u8
     ensures { result ≡ level_of set.now sigma }
 {
     let held = parts::held_in(set);
@@ -115,16 +82,14 @@ pub extern "C" fn probe_index(set: &[u8], sigma: f32) -> u8
     refine::refine::get_q_scale_index(sigmas, sigma)
 }
 
-#[unsafe(no_mangle)]
-pub extern "C" fn probe_spatial(set: &[u8], index: u8, values: &[f32], i: usize) -> f32
+pub fn probe_spatial(set: &[u8], index: u8, values: &[f32], i: usize) -> f32
     ensures { result ≡ spatial_part set.now index values.now i }
 {
     let w = refine::refine::fit_spatial_quadratic(parts::held_in(set), index, parts::nine(values));
     parts::number_at(&w, i)
 }
 
-#[unsafe(no_mangle)]
-pub extern "C" fn probe_refine(
+pub fn probe_refine(
     set: &[u8],
     k: &[f32],
     x: f32,
@@ -144,8 +109,7 @@ pub extern "C" fn probe_refine(
     parts::number_at(&list, i)
 }
 
-#[unsafe(no_mangle)]
-pub extern "C" fn probe_statistic(set: &[u8], l0: f32, l1: f32, l2: f32, l3: f32) -> f32
+pub fn probe_statistic(set: &[u8], l0: f32, l1: f32, l2: f32, l3: f32) -> f32
     ensures { result ≡ statistic_part set.now (l0 ∷ l1 ∷ l2 ∷ l3 ∷ []) }
 {
     let held = parts::held_in(set);
@@ -154,8 +118,7 @@ pub extern "C" fn probe_statistic(set: &[u8], l0: f32, l1: f32, l2: f32, l3: f32
     parts::number_of(s)
 }
 
-#[unsafe(no_mangle)]
-pub extern "C" fn probe_beta(set: &[u8], present: bool, statistic: f32) -> f32
+pub fn probe_beta(set: &[u8], present: bool, statistic: f32) -> f32
     ensures { result ≡ beta_part set.now present statistic }
 {
     let g = size::anchor::geometry_of(parts::held_in(set));
@@ -163,8 +126,7 @@ pub extern "C" fn probe_beta(set: &[u8], present: bool, statistic: f32) -> f32
     size::anchor::profile_beta_from_statistic(g, s)
 }
 
-#[unsafe(no_mangle)]
-pub extern "C" fn probe_blend(set: &[u8], l0: f32, l1: f32, l2: f32, l3: f32) -> f32
+pub fn probe_blend(set: &[u8], l0: f32, l1: f32, l2: f32, l3: f32) -> f32
     ensures { result ≡ blend_part set.now (l0 ∷ l1 ∷ l2 ∷ l3 ∷ []) }
 {
     let held = parts::held_in(set);
@@ -173,16 +135,14 @@ pub extern "C" fn probe_blend(set: &[u8], l0: f32, l1: f32, l2: f32, l3: f32) ->
     size::anchor::profile_blend_beta(g, sigmas, [l0, l1, l2, l3])
 }
 
-#[unsafe(no_mangle)]
-pub extern "C" fn probe_bounded(set: &[u8], beta: f32, raw: f32) -> f32
+pub fn probe_bounded(set: &[u8], beta: f32, raw: f32) -> f32
     ensures { result ≡ bounded_part set.now beta raw }
 {
     let g = size::anchor::geometry_of(parts::held_in(set));
     size::anchor::profile_bounded_move(g, beta, raw)
 }
 
-#[unsafe(no_mangle)]
-pub extern "C" fn probe_model(
+pub fn probe_model(
     set: &[u8],
     beta: f32,
     a: f32,
