@@ -1,5 +1,6 @@
 // The correction's face: its answer as a number, and a sigma or a cause.
 #![tactic(auto)]
+
 ghost use Rattle.std.specs.Prelude.{◌≡◌, [], ◌∷◌};
 ghost use Rattle.face_correct.specs.Face.{size_left, correct_face};
 

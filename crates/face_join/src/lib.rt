@@ -1,5 +1,6 @@
 // The join's face: its answer as a number and a value.
 #![tactic(auto)]
+
 ghost use Rattle.std.specs.Prelude.{◌≡◌};
 ghost use Rattle.face.specs.Face.{left};
 ghost use Rattle.face_join.specs.Face.{join_packed, join_face, join_old_face};

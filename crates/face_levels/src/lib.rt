@@ -1,5 +1,6 @@
 // The levels' face: its answer as a number.
 #![tactic(auto)]
+
 ghost use Rattle.std.specs.Prelude.{◌≡◌};
 ghost use Rattle.face_levels.specs.Face.{levels_left, levels_face};
 

@@ -1,5 +1,6 @@
 // The store's face: its answers as numbers and values.
 #![tactic(auto)]
+
 ghost use Rattle.std.specs.Prelude.{◌≡◌};
 ghost use Rattle.store.specs.Store.{Clear, Add, Strike, CloseUp};
 ghost use Rattle.face.specs.Face.{left};

@@ -1,6 +1,7 @@
 // The join: each spot's record with its size and its home pixel. A size comes from the four samples, the sigma and the polarity in the spot's own record.
 // A list is an old one, of records from before displacements were kept, or a present one: but for how its records lie (forms.rt) both are joined alike.
 #![tactic(auto)]
+
 pub mod check; // check.rt: the refusals
 mod forms; // forms.rt: how the records of a list lie
 mod put; // put.rt: sized records

@@ -1,5 +1,4 @@
 -- `correct` meets its contract: only the arm that answers a size stores one.
-use borrow.Author.Rules.{rules}
 use Rattle.face_correct.specs.Face.{size_number, size_cause, size_after, correct_face}
 use Rattle.face_correct.proofs.correct.Goals as goal
 

@@ -1,5 +1,4 @@
 -- `join` meets its contract.
-use borrow.Author.Rules.{rules}
 use Rattle.face_join.specs.Face.{join_face}
 use Rattle.face_join.proofs.FaceLaws.{join_left-by}
 use Rattle.face_join.proofs.join.Goals as goal

@@ -1,5 +1,4 @@
 -- `join_old` meets its contract.
-use borrow.Author.Rules.{rules}
 use Rattle.face_join.specs.Face.{join_old_face}
 use Rattle.face_join.proofs.FaceLaws.{join_left-by}
 use Rattle.face_join.proofs.join_old.Goals as goal

@@ -1,5 +1,4 @@
 -- `number_of` meets its contract.
-use borrow.Author.Rules.{rules}
 use Rattle.face_join.specs.Face.{join_packed}
 use Rattle.face_join.proofs.number_of.Goals as goal
 

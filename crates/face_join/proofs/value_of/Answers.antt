@@ -1,5 +1,4 @@
 -- `value_of` meets its contract.
-use borrow.Author.Rules.{rules}
 use Rattle.face_join.specs.Face.{join_packed}
 use Rattle.face_join.proofs.value_of.Goals as goal
 

@@ -1,7 +1,6 @@
 -- `levels` meets its contract.
 use Rattle.face_levels.specs.Face.{blurred_number, levels_face}
 use Rattle.face_levels.proofs.FaceLaws.{levels_left-by}
-use borrow.Author.Rules.{rules}
 use Rattle.face_levels.proofs.levels.Goals as goal
 
 pub returns-in-Made : goal.returns-in-Made

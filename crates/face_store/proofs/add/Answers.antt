@@ -1,5 +1,4 @@
 -- `add` meets its contract.
-use borrow.Author.Rules.{rules}
 use Rattle.face_store.specs.Face.{store_face}
 use Rattle.face_store.proofs.FaceLaws.{store_left-by}
 use Rattle.face_store.proofs.add.Goals as goal

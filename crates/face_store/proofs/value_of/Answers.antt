@@ -1,5 +1,4 @@
 -- `value_of` meets its contract.
-use borrow.Author.Rules.{rules}
 use Rattle.face_store.specs.Face.{stored_packed}
 use Rattle.face_store.proofs.value_of.Goals as goal
 

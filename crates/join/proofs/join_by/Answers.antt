@@ -1,5 +1,4 @@
 -- `join_by` meets its contract, refusals and all.
-use borrow.Author.Rules.{rules}
 use mathlib.Core.Path.{sym, ◌∙◌}
 use Rattle.join.specs.Join.{join_by, joined}
 use Rattle.join.proofs.CheckLaws.{checks_passed, passed_writable}

@@ -1,5 +1,4 @@
 -- `join_old` meets its contract.
-use borrow.Author.Rules.{rules}
 use Rattle.join.proofs.join_old.Goals as goal
 
 pub returns : goal.returns

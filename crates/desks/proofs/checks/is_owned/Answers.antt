@@ -1,16 +1,15 @@
 -- `checks::is_owned` meets its contract.
-use borrow.Author.Tests.{not-true, not-false}
 use mathlib.Core.Path.{sym, ◌∙◌}
 use Rattle.desks.proofs.CallLaws.{usable_parts}
 use Rattle.desks.proofs.checks.is_owned.Goals as goal
 
 pub returns-then-not-is_usable : goal.returns-then-not-is_usable
-returns-then-not-is_usable c = rw (← c.is_usable.ensures, not-true c.is_usable.result c.if-not-is_usable.true-raw)
+returns-then-not-is_usable c = rw (← c.is_usable.ensures, c.if-not-is_usable.true)
 
 pub owner_of-requires : goal.owner_of-requires
 owner_of-requires c =
     let a = c.args in
-    (usable_parts a.desk a.slot a.t.now (sym c.is_usable.ensures ∙ not-false c.is_usable.result c.if-not-is_usable.false-raw)).0
+    (usable_parts a.desk a.slot a.t.now (sym c.is_usable.ensures ∙ c.if-not-is_usable.false)).0
 
 pub returns : goal.returns
-returns c = rw (← c.is_usable.ensures, not-false c.is_usable.result c.if-not-is_usable.false-raw, c.owner_of.ensures)
+returns c = rw (← c.is_usable.ensures, c.if-not-is_usable.false, c.owner_of.ensures)

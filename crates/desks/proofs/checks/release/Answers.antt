@@ -1,5 +1,4 @@
 -- `checks::release` meets its contract.
-use borrow.Author.Tests.{not-true, not-false}
 use mathlib.Core.Path.{sym, ◌∙◌}
 use Rattle.desks.specs.Table.{slot_of}
 use Rattle.desks.specs.Desks.{Release, usable, needed}
@@ -11,10 +10,10 @@ pub returns-then-not-is_owned : goal.returns-then-not-is_owned
 unfolding needed
 returns-then-not-is_owned c =
     let a = c.args in
-    sym (not-owned a.desk (usable a.desk a.slot a.t.now) (slot_of a.t.now a.slot) Release (sym c.is_owned.ensures ∙ not-true c.is_owned.result c.if-not-is_owned.true-raw))
+    sym (not-owned a.desk (usable a.desk a.slot a.t.now) (slot_of a.t.now a.slot) Release (sym c.is_owned.ensures ∙ c.if-not-is_owned.true))
 
 pub returns : goal.returns
 unfolding needed
 returns c =
     let a = c.args in
-    sym (release_passes a.desk (usable a.desk a.slot a.t.now) (slot_of a.t.now a.slot) (sym c.is_owned.ensures ∙ not-false c.is_owned.result c.if-not-is_owned.false-raw))
+    sym (release_passes a.desk (usable a.desk a.slot a.t.now) (slot_of a.t.now a.slot) (sym c.is_owned.ensures ∙ c.if-not-is_owned.false))

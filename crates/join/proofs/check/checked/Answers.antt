@@ -1,6 +1,5 @@
 -- `check::checked` meets its contract: each return follows from the tests on the way to it.
-use borrow.Author.Rules.{rules}
-use borrow.Author.Tests.{lt-ltb, le-ltb, not-true, not-false}
+use borrow.Author.Tests.{lt-ltb, le-ltb}
 use Rattle.tables.specs.Refusal.{unless, first_of}
 use Rattle.tables.proofs.RefusalLaws.{sides_most}
 use Rattle.join.specs.Join.{join_checks}
@@ -12,29 +11,29 @@ returns-then-rows-cols c = rw c.if-rows-cols.true
 
 pub returns-then-not-good : goal.returns-then-not-good
 unfolding join_checks first_of unless
-returns-then-not-good c = rw (c.if-rows-cols.false, ← c.is_good-good.ensures, not-true c.is_good-good.result c.if-not-good.true-raw)
+returns-then-not-good c = rw (c.if-rows-cols.false, ← c.is_good-good.ensures, c.if-not-good.true)
 
 pub returns-then-not-whole : goal.returns-then-not-whole
 unfolding join_checks first_of unless
 returns-then-not-whole c =
-    rw (c.if-rows-cols.false, ← c.is_good-good.ensures, not-false c.is_good-good.result c.if-not-good.false-raw, ← c.is_whole-whole.ensures, not-true c.is_whole-whole.result c.if-not-whole.true-raw, ← c.count_of-count.ensures)
+    rw (c.if-rows-cols.false, ← c.is_good-good.ensures, c.if-not-good.false, ← c.is_whole-whole.ensures, c.if-not-whole.true, ← c.count_of-count.ensures)
 
 pub first_bad-bad-requires : goal.first_bad-bad-requires
 first_bad-bad-requires c =
-    let a = c.args in
-    sides_most a.rows a.cols c.if-rows-cols.false
+    let m = sides_most c.args.rows c.args.cols c.if-rows-cols.false in
+    record { rows_bound = m.0; cols_bound = m.1 }
 
 pub returns-then-bad-count : goal.returns-then-bad-count
 unfolding join_checks first_of unless
 returns-then-bad-count c =
-    rw (c.if-rows-cols.false, ← c.is_good-good.ensures, not-false c.is_good-good.result c.if-not-good.false-raw, ← c.is_whole-whole.ensures, not-false c.is_whole-whole.result c.if-not-whole.false-raw, ← c.first_bad-bad.ensures, ← c.count_of-count.ensures, lt-ltb _ _ c.if-bad-count.true)
+    rw (c.if-rows-cols.false, ← c.is_good-good.ensures, c.if-not-good.false, ← c.is_whole-whole.ensures, c.if-not-whole.false, ← c.first_bad-bad.ensures, ← c.count_of-count.ensures, lt-ltb _ _ c.if-bad-count.true)
 
 pub returns-then-is_short : goal.returns-then-is_short
 unfolding join_checks first_of unless
 returns-then-is_short c =
-    rw (c.if-rows-cols.false, ← c.is_good-good.ensures, not-false c.is_good-good.result c.if-not-good.false-raw, ← c.is_whole-whole.ensures, not-false c.is_whole-whole.result c.if-not-whole.false-raw, ← c.first_bad-bad.ensures, ← c.count_of-count.ensures, le-ltb _ _ c.if-bad-count.false, ← c.is_short.ensures, c.if-is_short.true)
+    rw (c.if-rows-cols.false, ← c.is_good-good.ensures, c.if-not-good.false, ← c.is_whole-whole.ensures, c.if-not-whole.false, ← c.first_bad-bad.ensures, ← c.count_of-count.ensures, le-ltb _ _ c.if-bad-count.false, ← c.is_short.ensures, c.if-is_short.true)
 
 pub returns : goal.returns
 unfolding join_checks first_of unless
 returns c =
-    rw (c.if-rows-cols.false, ← c.is_good-good.ensures, not-false c.is_good-good.result c.if-not-good.false-raw, ← c.is_whole-whole.ensures, not-false c.is_whole-whole.result c.if-not-whole.false-raw, ← c.first_bad-bad.ensures, ← c.count_of-count.ensures, le-ltb _ _ c.if-bad-count.false, ← c.is_short.ensures, c.if-is_short.false)
+    rw (c.if-rows-cols.false, ← c.is_good-good.ensures, c.if-not-good.false, ← c.is_whole-whole.ensures, c.if-not-whole.false, ← c.first_bad-bad.ensures, ← c.count_of-count.ensures, le-ltb _ _ c.if-bad-count.false, ← c.is_short.ensures, c.if-is_short.false)

@@ -1,10 +1,6 @@
 -- `check::first_bad` meets its contract. What is left to search gives the whole search's answer.
-use borrow.Author.Rules.{rules}
-use mathlib.Core.Path.{◌≡◌, sym, ◌∙◌}
-use Prim.Native.Nat.{◌-◌, ◌≤◌}
+use mathlib.Core.Path.{sym, ◌∙◌}
 use native.Mathlib.Omega.{arith}
-use borrow.Author.Tests.{not-true, not-false}
-use Rattle.join.specs.Join.{first_bad}
 use Rattle.join.proofs.CheckLaws.{bad-start, bad-here, bad_further, bad_end}
 use Rattle.join.proofs.check.first_bad.Goals as goal
 
@@ -17,7 +13,7 @@ record_in-requires c = rw (← c.count_of-count.ensures) (omega arith)
 pub returns-then-not-is_readable : goal.returns-then-not-is_readable
 returns-then-not-is_readable c =
     let l = c.loop-i in
-    rw (← c.count_of-count.ensures) (sym (l.invariant.1 ∙ bad-here _ _ _ _ _ l.i (omega arith) (rw (← c.record_in.ensures, ← c.is_readable.ensures) (not-true _ c.if-not-is_readable.true-raw))))
+    rw (← c.count_of-count.ensures) (sym (l.invariant.1 ∙ bad-here _ _ _ _ _ l.i (omega arith) (rw (← c.record_in.ensures, ← c.is_readable.ensures) (c.if-not-is_readable.true))))
 
 pub overflow_add-i : goal.overflow_add-i
 overflow_add-i c = omega arith
@@ -28,7 +24,7 @@ loop-i-smaller c = omega arith
 pub loop-i-preserved : goal.loop-i-preserved
 loop-i-preserved c =
     let l = c.loop-i in
-    (omega arith, l.invariant.1 ∙ bad_further _ _ _ _ _ l.i (omega arith) (rw (← c.record_in.ensures, ← c.is_readable.ensures) (not-false _ c.if-not-is_readable.false-raw)))
+    (omega arith, l.invariant.1 ∙ bad_further _ _ _ _ _ l.i (omega arith) (rw (← c.record_in.ensures, ← c.is_readable.ensures) (c.if-not-is_readable.false)))
 
 pub returns : goal.returns
 returns c = rw (← c.count_of-count.ensures) (sym (c.loop-i.invariant.1 ∙ bad_end _ _ _ _ _ _ (omega arith)))

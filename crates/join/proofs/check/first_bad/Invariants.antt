@@ -1,11 +1,7 @@
 -- `check::first_bad` meets its contract. What is left to search gives the whole search's answer.
-use borrow.Author.Rules.{rules}
-use mathlib.Core.Path.{◌≡◌, sym, ◌∙◌}
+use mathlib.Core.Path.{◌≡◌}
 use Prim.Native.Nat.{◌-◌, ◌≤◌}
-use native.Mathlib.Omega.{arith}
-use borrow.Author.Tests.{not-true, not-false}
 use Rattle.join.specs.Join.{first_bad}
-use Rattle.join.proofs.CheckLaws.{bad-start, bad-here, bad_further, bad_end}
 use Rattle.join.proofs.check.first_bad.Given as goal
 
 abbrev pub invariant-loop-i : goal.invariant-loop-i

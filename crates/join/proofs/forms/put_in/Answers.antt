@@ -1,5 +1,4 @@
 -- `forms::put_in` meets its contract.
-use borrow.Author.Rules.{rules}
 use native.Mathlib.Omega.{arith}
 use Rattle.join.proofs.forms.put_in.Goals as goal
 

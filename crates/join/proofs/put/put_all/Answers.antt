@@ -1,12 +1,6 @@
 -- `put::put_all` meets its contract. What is left to store gives the whole buffer.
-use borrow.Author.Rules.{rules}
-use Prim.Native.Nat.{◌-◌, ◌*◌, ◌≤◌}
 use native.Mathlib.Omega.{arith}
-use mathlib.Core.Path.{◌≡◌, refl, sym, ◌∙◌}
-use lib.ListN.{length}
-use lib.Seq.{sets}
-use Rattle.join.specs.Forms.{sized_width_of}
-use Rattle.join.specs.Join.{records_from, sized_all}
+use mathlib.Core.Path.{refl, sym, ◌∙◌}
 use Rattle.join.proofs.SizedLaws.{place_inside, stored-start, stored_next, stored_end}
 use Rattle.join.proofs.put.put_all.Goals as goal
 

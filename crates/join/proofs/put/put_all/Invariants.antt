@@ -1,13 +1,10 @@
 -- `put::put_all` meets its contract. What is left to store gives the whole buffer.
-use borrow.Author.Rules.{rules}
 use Prim.Native.Nat.{◌-◌, ◌*◌, ◌≤◌}
-use native.Mathlib.Omega.{arith}
-use mathlib.Core.Path.{◌≡◌, refl, sym, ◌∙◌}
+use mathlib.Core.Path.{◌≡◌}
 use lib.ListN.{length}
 use lib.Seq.{sets}
 use Rattle.join.specs.Forms.{sized_width_of}
 use Rattle.join.specs.Join.{records_from, sized_all}
-use Rattle.join.proofs.SizedLaws.{place_inside, stored-start, stored_next, stored_end}
 use Rattle.join.proofs.put.put_all.Given as goal
 
 abbrev pub invariant-loop-i : goal.invariant-loop-i

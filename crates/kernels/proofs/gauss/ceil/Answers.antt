@@ -6,7 +6,6 @@ use native.Mathlib.Nat.{not-suc-le-zero}
 use native.Mathlib.Omega.{arith}
 use lib.Ieee.{lt}
 use borrow.Author.Count.{below_more}
-use borrow.Author.Tests.{not-true, not-false}
 use Rattle.kernels.proofs.Ceil.{ceil_is}
 use Rattle.kernels.proofs.gauss.ceil.Goals as goal
 
@@ -19,7 +18,7 @@ count-y-requires c = omega arith
 pub returns-then-not-y-x : goal.returns-then-not-y-x
 returns-then-not-y-x c =
     let l = c.loop-n in
-    let h : lt c.count-y.result c.args.x ≡ false = not-true _ c.if-not-y-x.true-raw in
+    let h : lt c.count-y.result c.args.x ≡ false = c.if-not-y-x.true in
     ceil_is _ l.n l.invariant.0 l.invariant.1 (inr (rw c.count-y.ensures at h))
 
 pub overflow_add-n : goal.overflow_add-n
@@ -31,7 +30,7 @@ loop-n-smaller c = omega arith
 pub loop-n-preserved : goal.loop-n-preserved
 loop-n-preserved c =
     let l = c.loop-n in
-    let h : lt c.count-y.result c.args.x ≡ true = not-false _ c.if-not-y-x.false-raw in
+    let h : lt c.count-y.result c.args.x ≡ true = c.if-not-y-x.false in
     (omega arith, below_more _ _ l.invariant.1 (rw c.count-y.ensures at h))
 
 pub returns : goal.returns

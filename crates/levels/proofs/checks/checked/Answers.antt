@@ -1,6 +1,6 @@
 -- `checks::checked` meets its contract: each return follows from the tests on the way to it.
 use native.Mathlib.Omega.{arith}
-use borrow.Author.Tests.{lt-ltb, le-ltb, eq-eqb, ne_eqb, not-true, not-false}
+use borrow.Author.Tests.{lt-ltb, le-ltb, eq-eqb, ne_eqb}
 use Rattle.tables.specs.Refusal.{unless, first_of}
 use Rattle.tables.proofs.RefusalLaws.{sides_most}
 use Rattle.grid.proofs.GridLaws.{area}
@@ -27,12 +27,12 @@ returns-then-octave-gt5 c = rw (c.if-rows-cols.false, eq-eqb _ _ c.if-n-area.fal
 
 pub returns-then-not-good : goal.returns-then-not-good
 unfolding levels_checks first_of unless
-returns-then-not-good c = rw (c.if-rows-cols.false, eq-eqb _ _ c.if-n-area.false, le-ltb 5 _ c.if-octave-gt5.false, ← c.is_good-good.ensures, not-true c.is_good-good.result c.if-not-good.true-raw)
+returns-then-not-good c = rw (c.if-rows-cols.false, eq-eqb _ _ c.if-n-area.false, le-ltb 5 _ c.if-octave-gt5.false, ← c.is_good-good.ensures, c.if-not-good.true)
 
 pub returns-then-short : goal.returns-then-short
 unfolding levels_checks first_of unless
-returns-then-short c = rw (c.if-rows-cols.false, eq-eqb _ _ c.if-n-area.false, le-ltb 5 _ c.if-octave-gt5.false, ← c.is_good-good.ensures, not-false c.is_good-good.result c.if-not-good.false-raw, ← c.short.ensures, c.if-short.true)
+returns-then-short c = rw (c.if-rows-cols.false, eq-eqb _ _ c.if-n-area.false, le-ltb 5 _ c.if-octave-gt5.false, ← c.is_good-good.ensures, c.if-not-good.false, ← c.short.ensures, c.if-short.true)
 
 pub returns : goal.returns
 unfolding levels_checks first_of unless
-returns c = rw (c.if-rows-cols.false, eq-eqb _ _ c.if-n-area.false, le-ltb 5 _ c.if-octave-gt5.false, ← c.is_good-good.ensures, not-false c.is_good-good.result c.if-not-good.false-raw, ← c.short.ensures, c.if-short.false)
+returns c = rw (c.if-rows-cols.false, eq-eqb _ _ c.if-n-area.false, le-ltb 5 _ c.if-octave-gt5.false, ← c.is_good-good.ensures, c.if-not-good.false, ← c.short.ensures, c.if-short.false)

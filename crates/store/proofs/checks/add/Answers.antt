@@ -1,5 +1,5 @@
 -- `checks::add` meets its contract.
-use borrow.Author.Tests.{le-leb, lt-leb, not-true, not-false}
+use borrow.Author.Tests.{le-leb, lt-leb}
 use mathlib.Core.Path.{sym, ◌∙◌}
 use Rattle.tables.specs.Refusal.{first_of, unless}
 use Rattle.store.proofs.StoreLaws.{close_passed, add_over, add_stops}
@@ -17,7 +17,7 @@ returns-then-not-good c =
     let a = c.args in
     let fine = sym c.close_up-check.ensures ∙ c.in-Fine.is in
     let good = c.is_good_new-good in
-    rw (add_over a.rows a.cols a.b.now a.spot.now fine, ← good.ensures, not-true good.result c.if-not-good.true-raw)
+    rw (add_over a.rows a.cols a.b.now a.spot.now fine, ← good.ensures, c.if-not-good.true)
 
 pub returns-then-slots-free : goal.returns-then-slots-free
 unfolding first_of unless
@@ -25,7 +25,7 @@ returns-then-slots-free c =
     let a = c.args in
     let fine = sym c.close_up-check.ensures ∙ c.in-Fine.is in
     let good = c.is_good_new-good in
-    rw (add_over a.rows a.cols a.b.now a.spot.now fine, ← good.ensures, not-false good.result c.if-not-good.false-raw, ← c.requires, le-leb _ _ c.if-slots-free.true)
+    rw (add_over a.rows a.cols a.b.now a.spot.now fine, ← good.ensures, c.if-not-good.false, ← c.requires, le-leb _ _ c.if-slots-free.true)
 
 pub returns-in-Bad : goal.returns-in-Bad
 returns-in-Bad c =
@@ -38,4 +38,4 @@ returns-else-slots-free c =
     let a = c.args in
     let fine = sym c.close_up-check.ensures ∙ c.in-Fine.is in
     let good = c.is_good_new-good in
-    rw (add_over a.rows a.cols a.b.now a.spot.now fine, ← good.ensures, not-false good.result c.if-not-good.false-raw, ← c.requires, lt-leb _ _ c.if-slots-free.false)
+    rw (add_over a.rows a.cols a.b.now a.spot.now fine, ← good.ensures, c.if-not-good.false, ← c.requires, lt-leb _ _ c.if-slots-free.false)

@@ -14,7 +14,7 @@ returns-then-not-is_live c =
     let a = c.args in
     let fine = sym c.close_up-check.ensures ∙ c.in-Fine.is in
     let live = c.is_live in
-    let free : is_free (get_or (slots_of a.b.now) a.i free_bytes) ≡ true = not-false _ (sym live.ensures ∙ not-true live.result c.if-not-is_live.true-raw) in
+    let free : is_free (get_or (slots_of a.b.now) a.i free_bytes) ≡ true = not-false _ (sym live.ensures ∙ c.if-not-is_live.true) in
     rw (strike_over a.rows a.cols a.b.now a.i fine, free)
 
 pub returns-in-Bad : goal.returns-in-Bad
@@ -28,5 +28,5 @@ returns-else-not-is_live c =
     let a = c.args in
     let fine = sym c.close_up-check.ensures ∙ c.in-Fine.is in
     let live = c.is_live in
-    let held : is_free (get_or (slots_of a.b.now) a.i free_bytes) ≡ false = not-true _ (sym live.ensures ∙ not-false live.result c.if-not-is_live.false-raw) in
+    let held : is_free (get_or (slots_of a.b.now) a.i free_bytes) ≡ false = not-true _ (sym live.ensures ∙ c.if-not-is_live.false) in
     rw (strike_over a.rows a.cols a.b.now a.i fine, held)
