@@ -1,5 +1,6 @@
 // Detection: the spots of four levels.
 #![tactic(auto)]
+
 mod candidates; // candidates.rt: the loops over the pixels
 
 ghost use Rattle.std.specs.Prelude.{◌≡◌};

@@ -1,5 +1,6 @@
 // A feed of columns: a map is given four columns at a time, and each column is judged when two more have come.
 #![tactic(auto)]
+
 ghost use Rattle.std.specs.Prelude.{◌≡◌, cond, ◌≤◌, ◌<◌, length};
 ghost use Rattle.tables.specs.declared.Refusal.TheVariants.{Room};
 ghost use Rattle.tables.specs.Refusal.{first_of};

@@ -1,5 +1,6 @@
 // A given list beside the records that are due, one after the other.
 #![tactic(auto)]
+
 ghost use Rattle.std.specs.Prelude.{◌≡◌, ◌+◌, ◌≤◌, length, take, drop};
 ghost use Rattle.alike.specs.Same.{same};
 ghost use Rattle.record.specs.Layout.{spot_width, record_bytes};

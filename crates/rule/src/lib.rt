@@ -1,5 +1,6 @@
 // The pixels of the judged column that may list something: blocks of 254 of them, each by its own lines and by the cubics beside its candidates.
 #![tactic(auto)]
+
 ghost use Rattle.std.specs.Prelude.{◌≡◌, ℕ, ◌+◌, ◌≤◌, ◌<◌, length};
 ghost use Rattle.samples.specs.Four.{four_of};
 ghost use Rattle.slots.specs.Column.{Rings};

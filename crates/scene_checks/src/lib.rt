@@ -1,5 +1,6 @@
 // A scene's refusals before its first tile.
 #![tactic(auto)]
+
 ghost use Rattle.std.specs.Prelude.{◌≡◌};
 ghost use Rattle.tables.specs.Refusal.{first_of};
 ghost use Rattle.tiles.specs.Tiles.{tile_step};

@@ -1,5 +1,6 @@
 // What the judged column lists.
 #![tactic(auto)]
+
 ghost use Rattle.std.specs.Prelude.{◌≡◌, cond, [], ◌+◌, ◌-◌, ◌*◌, ◌≤◌, ◌<◌, ◌^◌, leb, eqb, length};
 ghost use Rattle.record.specs.Layout.{spot_width, Laid};
 ghost use Rattle.samples.specs.Four.{four_of};

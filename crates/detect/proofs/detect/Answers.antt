@@ -1,5 +1,4 @@
 -- `detect` meets its contract, refusals and all.
-use borrow.Author.Rules.{rules}
 use native.Mathlib.Omega.{arith}
 use mathlib.Core.Path.{sym, ◌∙◌}
 use Rattle.detect.specs.Detect.{detect_of, detected}

@@ -1,6 +1,5 @@
 -- `advance` meets its contract.
 use borrow.Author.Tests.{not-true, not-false}
-use borrow.Author.Rules.{rules}
 use Rattle.feed.proofs.advance.Goals as goal
 
 pub returns-then-not-taken : goal.returns-then-not-taken

@@ -4,7 +4,6 @@ use borrow.Author.Tests.{not-true, not-false}
 use Rattle.tables.specs.Refusal.{unless, first_of}
 use Rattle.tables.proofs.RefusalLaws.{sides_most}
 use Rattle.feed.specs.Feed.{start_checks}
-use borrow.Author.Rules.{rules}
 use Rattle.feed.proofs.checked.Goals as goal
 
 pub returns-then-sides_off : goal.returns-then-sides_off

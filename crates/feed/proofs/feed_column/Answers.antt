@@ -4,7 +4,6 @@ use Rattle.tables.specs.Refusal.{unless, first_of}
 use Rattle.samples.specs.Four.{four_of}
 use Rattle.feed.specs.Feed.{column_checks, fed_by, column_of}
 use Rattle.feed.proofs.FeedLaws.{not-past, not_wrong, not_short}
-use borrow.Author.Rules.{rules}
 use Rattle.feed.proofs.feed_column.Goals as goal
 
 pub returns-then-past : goal.returns-then-past

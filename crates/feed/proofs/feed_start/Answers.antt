@@ -3,7 +3,6 @@ use mathlib.Core.Path.{sym, ◌∙◌}
 use native.Mathlib.Omega.{arith}
 use Rattle.feed.specs.Feed.{start_of, started_by}
 use Rattle.feed.proofs.FeedLaws.{octave-most}
-use borrow.Author.Rules.{rules}
 use Rattle.feed.proofs.feed_start.Goals as goal
 
 pub overflow_cast-octave : goal.overflow_cast-octave

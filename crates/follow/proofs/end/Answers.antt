@@ -1,7 +1,6 @@
 -- `end` meets its contract.
 use borrow.Author.Tests.{lt-ltb, le-ltb}
 use Rattle.follow.specs.Follow.{end_of}
-use borrow.Author.Rules.{rules}
 use Rattle.follow.proofs.end.Goals as goal
 
 pub returns-then-i-list : goal.returns-then-i-list

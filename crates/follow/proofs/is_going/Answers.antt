@@ -1,6 +1,5 @@
 -- `is_going` meets its contract.
 use Rattle.follow.specs.Follow.{is_going}
-use borrow.Author.Rules.{rules}
 use Rattle.follow.proofs.is_going.Goals as goal
 
 pub returns-in-Going : goal.returns-in-Going

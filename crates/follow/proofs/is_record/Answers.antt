@@ -6,7 +6,6 @@ use Rattle.alike.specs.Same.{same}
 use Rattle.alike.proofs.PartLaws.{part_is, sets-all}
 use Rattle.record.specs.Layout.{spot_width}
 use Rattle.record.proofs.LayoutLaws.{length-record_bytes}
-use borrow.Author.Rules.{rules}
 use Rattle.follow.proofs.is_record.Goals as goal
 
 -- part-is-same-start : tie.Need-slice-bounds-is-same-start

@@ -2,7 +2,6 @@
 use native.Mathlib.Numerals.{add-one}
 use mathlib.Core.Path.{sym, ◌∙◌}
 use Rattle.follow.proofs.WalkLaws.{meet_end, meet_extra, meet_absent, meet_same, meet_different}
-use borrow.Author.Rules.{rules}
 use Rattle.follow.proofs.meet.Goals as goal
 
 pub returns-then-list-i : goal.returns-then-list-i

@@ -1,7 +1,6 @@
 -- `step` meets its contract.
 use mathlib.Core.Path.{◌∙◌}
 use Rattle.follow.specs.Follow.{step_of}
-use borrow.Author.Rules.{rules}
 use Rattle.follow.proofs.step.Goals as goal
 
 pub returns-in-Going : goal.returns-in-Going

@@ -1,7 +1,6 @@
 -- `block` meets its contract: the four columns of the ring, and what is left of the block between them.
 use Prim.Native.Nat.{◌+◌}
 use native.Mathlib.Omega.{arith}
-use borrow.Author.Rules.{rules}
 use Rattle.samples.specs.Four.{four_of}
 use Rattle.ring.proofs.RingLaws.{ring_beside}
 use Rattle.rule.proofs.RuleLaws.{part_left}

@@ -1,11 +1,7 @@
 -- `mark_column` meets its contract. The loop's invariant: the marks of the pixels before the j-th are put.
-use mathlib.Core.Path.{◌≡◌, refl}
-use Prim.Native.Nat.{◌-◌}
+use mathlib.Core.Path.{refl}
 use native.Mathlib.Omega.{arith}
-use lib.ListN.{length}
-use Rattle.samples.specs.Four.{four_of}
-use Rattle.slots.specs.Column.{Rings}
-use Rattle.rule.proofs.RuleLaws.{block_room, RuledTo, ruled-none, ruled-more, ruled-all}
+use Rattle.rule.proofs.RuleLaws.{block_room, ruled-none, ruled-more, ruled-all}
 use Rattle.rule.proofs.mark_column.Goals as goal
 
 pub loop-j-init : goal.loop-j-init

@@ -1,11 +1,10 @@
 -- `mark_column` meets its contract. The loop's invariant: the marks of the pixels before the j-th are put.
-use mathlib.Core.Path.{◌≡◌, refl}
+use mathlib.Core.Path.{◌≡◌}
 use Prim.Native.Nat.{◌-◌}
-use native.Mathlib.Omega.{arith}
 use lib.ListN.{length}
 use Rattle.samples.specs.Four.{four_of}
 use Rattle.slots.specs.Column.{Rings}
-use Rattle.rule.proofs.RuleLaws.{block_room, RuledTo, ruled-none, ruled-more, ruled-all}
+use Rattle.rule.proofs.RuleLaws.{RuledTo}
 use Rattle.rule.proofs.mark_column.Given as goal
 
 abbrev pub invariant-loop-j : goal.invariant-loop-j

@@ -1,9 +1,6 @@
 -- `put_marks` meets its contract. The loop's invariant: the first i marks are put.
-use mathlib.Core.Path.{◌≡◌, refl}
 use Prim.Native.Nat.{◌-◌, ◌≤◌}
-use native.Mathlib.Omega.{arith}
 use Rattle.rule.specs.Rule.{Copied}
-use Rattle.rule.proofs.RuleLaws.{copied_none, copied_more}
 use Rattle.rule.proofs.put_marks.Given as goal
 
 abbrev pub invariant-loop-i : goal.invariant-loop-i

@@ -5,7 +5,6 @@ use borrow.Author.Tests.{not-true, not-false}
 use Rattle.tables.specs.Refusal.{unless, first_of}
 use Rattle.scene_checks.specs.Checks.{scene_checks}
 use Rattle.scene_checks.proofs.ChecksLaws.{area_most}
-use borrow.Author.Rules.{rules}
 use Rattle.scene_checks.proofs.checked.Goals as goal
 
 pub returns-then-sides_off : goal.returns-then-sides_off

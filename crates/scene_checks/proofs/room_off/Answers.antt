@@ -2,7 +2,6 @@
 use Prim.Native.Nat.{◌*◌, ◌≤◌}
 use native.Mathlib.Omega.{arith}
 use Rattle.scene_checks.proofs.ChecksLaws.{first-most}
-use borrow.Author.Rules.{rules}
 use Rattle.scene_checks.proofs.room_off.Goals as goal
 
 pub overflow_mul-need : goal.overflow_mul-need

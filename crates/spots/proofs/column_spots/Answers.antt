@@ -1,9 +1,8 @@
 -- `column_spots` meets its contract. The loop's invariant: what the first i judged pixels list is laid.
 use mathlib.Core.Path.{◌≡◌, subst}
-use Prim.Native.Nat.{ℕ, ◌-◌, ◌≤◌, ◌<◌}
+use Prim.Native.Nat.{ℕ, ◌-◌, ◌<◌}
 use native.Mathlib.Numerals.{add-one}
 use native.Mathlib.Omega.{arith}
-use Rattle.record.specs.Layout.{Laid}
 use Rattle.record.proofs.LayoutLaws.{laid_none, laid-append, laid-length}
 use Rattle.samples.specs.Four.{four_of}
 use Rattle.ring.specs.Ring.{column_spots}

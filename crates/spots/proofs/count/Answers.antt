@@ -1,7 +1,6 @@
 -- `count` meets its contract.
 use mathlib.Core.Path.{refl, ◌∙◌}
 use native.Mathlib.Nat.{zero-add}
-use borrow.Author.Rules.{rules}
 use Rattle.spots.proofs.count.Goals as goal
 
 pub slice_bounds-column_spots-end : goal.slice_bounds-column_spots-end

@@ -4,7 +4,6 @@ use Prim.Native.Nat.{◌-◌}
 use native.Mathlib.Omega.{arith}
 use borrow.Author.Tests.{not-true, not-false}
 use Rattle.ring.specs.Lent.{height_of}
-use borrow.Author.Rules.{rules}
 use Rattle.spots.proofs.height.Goals as goal
 
 pub returns-then-not-is_judging : goal.returns-then-not-is_judging

@@ -1,7 +1,6 @@
 -- `is_judging` meets its contract.
 use mathlib.Core.Path.{refl}
 use Rattle.ring.specs.Ring.{judges}
-use borrow.Author.Rules.{rules}
 use Rattle.spots.proofs.is_judging.Goals as goal
 
 pub returns : goal.returns

@@ -9,7 +9,6 @@ use Rattle.samples.specs.Four.{four_of}
 use Rattle.ring.specs.Ring.{column_spots}
 use Rattle.ring.proofs.SpotsLaws.{column_short, height-most}
 use Rattle.spots.proofs.MarkedLaws.{marked_short}
-use borrow.Author.Rules.{rules}
 use Rattle.spots.proofs.is_roomy.Goals as goal
 
 pub marked-requires : goal.marked-requires

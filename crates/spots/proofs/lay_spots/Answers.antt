@@ -1,7 +1,6 @@
 -- `lay_spots` meets its contract.
 use borrow.Author.Tests.{not-true, not-false}
 use Rattle.record.proofs.LayoutLaws.{laid_none}
-use borrow.Author.Rules.{rules}
 use Rattle.spots.proofs.lay_spots.Goals as goal
 
 pub returns-then-not-fits : goal.returns-then-not-fits

@@ -1,10 +1,8 @@
 -- `marked` meets its contract. The loop's invariant: of the first i pixels k are marked.
 use mathlib.Core.Path.{◌≡◌, refl, ◌∙◌}
-use Prim.Native.Nat.{◌-◌, ◌≤◌}
 use native.Mathlib.Omega.{arith}
 use Rattle.spots.specs.Marked.{marked_of}
 use Rattle.spots.proofs.MarkedLaws.{marked_more}
-use borrow.Author.Rules.{rules}
 use Rattle.spots.proofs.marked.Goals as goal
 
 pub loop-i-init : goal.loop-i-init

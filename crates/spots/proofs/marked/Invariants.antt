@@ -1,10 +1,7 @@
 -- `marked` meets its contract. The loop's invariant: of the first i pixels k are marked.
-use mathlib.Core.Path.{◌≡◌, refl, ◌∙◌}
+use mathlib.Core.Path.{◌≡◌}
 use Prim.Native.Nat.{◌-◌, ◌≤◌}
-use native.Mathlib.Omega.{arith}
 use Rattle.spots.specs.Marked.{marked_of}
-use Rattle.spots.proofs.MarkedLaws.{marked_more}
-use borrow.Author.Rules.{rules}
 use Rattle.spots.proofs.marked.Given as goal
 
 abbrev pub invariant-loop-i : goal.invariant-loop-i

@@ -1,6 +1,5 @@
 -- `marked_spots` meets its contract.
 use Rattle.record.proofs.LayoutLaws.{laid_none}
-use borrow.Author.Rules.{rules}
 use Rattle.spots.proofs.marked_spots.Goals as goal
 
 pub returns-then-mark-eq0 : goal.returns-then-mark-eq0

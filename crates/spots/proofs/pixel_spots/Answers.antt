@@ -1,6 +1,5 @@
 -- `pixel_spots` meets its contract.
 use Rattle.ring.specs.Ring.{pixel_spots}
-use borrow.Author.Rules.{rules}
 use Rattle.spots.proofs.pixel_spots.Goals as goal
 
 pub returns : goal.returns

@@ -1,7 +1,6 @@
 -- `candidates::judged` meets its contract.
 use Rattle.samples.specs.Level.{maps_of}
 use Rattle.detect.proofs.DueLaws.{pixel_both}
-use borrow.Author.Rules.{rules}
 use Rattle.detect.proofs.candidates.judged.Goals as goal
 
 pub returns : goal.returns

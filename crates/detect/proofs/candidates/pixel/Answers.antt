@@ -1,7 +1,6 @@
 -- `candidates::pixel` meets its contract: a pixel without a mark lists nothing.
 use Rattle.record.proofs.LayoutLaws.{laid_none}
 use borrow.Author.Tests.{not-true}
-use borrow.Author.Rules.{rules}
 use Rattle.detect.proofs.candidates.pixel.Goals as goal
 
 pub returns-then-not-marked : goal.returns-then-not-marked

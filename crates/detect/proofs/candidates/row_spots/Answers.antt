@@ -2,11 +2,10 @@
 use native.Mathlib.Numerals.{add-one}
 use native.Mathlib.Omega.{arith}
 use mathlib.Core.Path.{◌≡◌, sym, ◌∙◌}
-use Prim.Native.Nat.{◌+◌, ◌%◌, ◌≤◌, ◌-◌}
+use Prim.Native.Nat.{◌+◌, ◌%◌, ◌-◌}
 use Rattle.samples.specs.Level.{maps_of}
 use Rattle.marks.proofs.MarksLaws.{mark-none}
 use Rattle.sweep.proofs.PassLaws.{unmarked-nothing}
-use Rattle.record.specs.Layout.{Laid}
 use Rattle.detect.specs.Due.{row_due}
 use Rattle.record.proofs.LayoutLaws.{laid_none, laid-append, laid-length}
 use Rattle.detect.proofs.DueLaws.{nothing-listed, row_due-short}

@@ -2,11 +2,9 @@
 use native.Mathlib.Numerals.{add-one}
 use native.Mathlib.Omega.{arith}
 use mathlib.Core.Path.{◌≡◌}
-use Prim.Native.Nat.{ℕ, ◌%◌, ◌≤◌, ◌<◌, ◌-◌}
-use lib.ListN.{length, length-replicate}
+use Prim.Native.Nat.{ℕ, ◌-◌}
+use lib.ListN.{length-replicate}
 use Rattle.samples.specs.Level.{maps_of}
-use Rattle.sweep.specs.Ruled.{Block}
-use Rattle.record.specs.Layout.{Laid}
 use Rattle.detect.specs.Due.{rows_due, due}
 use Rattle.record.proofs.LayoutLaws.{laid_none, laid-append, laid-length}
 use Rattle.detect.proofs.DueLaws.{rows_due-short}

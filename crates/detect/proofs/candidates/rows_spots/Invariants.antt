@@ -1,16 +1,11 @@
 -- `candidates::rows_spots` meets its contract. The loop's invariant: what the first j judged rows list is laid.
-use native.Mathlib.Numerals.{add-one}
-use native.Mathlib.Omega.{arith}
 use mathlib.Core.Path.{◌≡◌}
-use Prim.Native.Nat.{ℕ, ◌%◌, ◌≤◌, ◌<◌, ◌-◌}
-use lib.ListN.{length, length-replicate}
+use Prim.Native.Nat.{◌%◌, ◌≤◌, ◌<◌, ◌-◌}
+use lib.ListN.{length}
 use Rattle.samples.specs.Level.{maps_of}
 use Rattle.sweep.specs.Ruled.{Block}
 use Rattle.record.specs.Layout.{Laid}
-use Rattle.detect.specs.Due.{rows_due, due}
-use Rattle.record.proofs.LayoutLaws.{laid_none, laid-append, laid-length}
-use Rattle.detect.proofs.DueLaws.{rows_due-short}
-use Rattle.sweep.proofs.PassLaws.{block_next}
+use Rattle.detect.specs.Due.{rows_due}
 use Rattle.detect.proofs.candidates.rows_spots.Given as goal
 
 abbrev pub invariant-loop-j : goal.invariant-loop-j

@@ -46,10 +46,11 @@ pixel-v-requires c =
     let p = c.requires in
     let l = c.loop-k in
     let inside = ltb-true (l.k + 8) a.f.cols (both _ _ c.loop-k-test.true).0 in
-    let m = maps_of a.l0.now a.l1.now a.l2.now a.l3.now a.f a.set a.th in record { sized = p.sized; within = (
-        record { top = omega arith; bottom = omega arith; left = omega arith; right = omega arith },
-        λ none. nothing-listed m (a.j + 4) (l.k + 4) (unmarked-nothing m a.j l.k p.j_bound inside p.block (mark-none a.marks.now (a.j % 254) (l.k + 4) (sym c.is_marked.ensures ∙ none))),
-      ); col_value =  }
+    let m = maps_of a.l0.now a.l1.now a.l2.now a.l3.now a.f a.set a.th in record {
+      sized = p.sized;
+      within = record { top = omega arith; bottom = omega arith; left = omega arith; right = omega arith };
+      col_value = λ none. nothing-listed m (a.j + 4) (l.k + 4) (unmarked-nothing m a.j l.k p.j_bound inside p.block (mark-none a.marks.now (a.j % 254) (l.k + 4) (sym c.is_marked.ensures ∙ none)));
+    }
 
 pub overflow_add-k-in-loop-k-3 : goal.overflow_add-k-in-loop-k-3
 overflow_add-k-in-loop-k-3 c = let p = c.requires in omega (arith, p.sized.cols-most, c.loop-k.invariant.0)

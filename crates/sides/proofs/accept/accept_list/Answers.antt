@@ -1,10 +1,6 @@
 -- `accept::accept_list` meets its contract. The loop's invariant: the first j codes have raised their pixels.
 use mathlib.Core.Path.{◌≡◌}
-use mathlib.Core.Bool.{false}
-use Prim.Native.Nat.{ℕ, ◌≤◌, ◌-◌}
 use native.Mathlib.Omega.{arith}
-use Rattle.rivals.specs.List.{Raised}
-use Rattle.sides.specs.Beside.{taken_of}
 use Rattle.rivals.proofs.EndsLaws.{raised_none, raised_more}
 use Rattle.sides.proofs.accept.accept_list.Goals as goal
 

@@ -2,10 +2,8 @@
 use mathlib.Core.Path.{◌≡◌}
 use mathlib.Core.Bool.{false}
 use Prim.Native.Nat.{ℕ, ◌≤◌, ◌-◌}
-use native.Mathlib.Omega.{arith}
 use Rattle.rivals.specs.List.{Raised}
 use Rattle.sides.specs.Beside.{taken_of}
-use Rattle.rivals.proofs.EndsLaws.{raised_none, raised_more}
 use Rattle.sides.proofs.accept.accept_list.Given as goal
 
 abbrev pub invariant-loop-j : goal.invariant-loop-j

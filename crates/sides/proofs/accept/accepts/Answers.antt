@@ -1,7 +1,6 @@
 -- `accept::accepts` meets its contract.
 use borrow.Author.Tests.{not-true, not-false}
 use Rattle.sides.proofs.AcceptLaws.{accepted-by}
-use borrow.Author.Rules.{rules}
 use Rattle.sides.proofs.accept.accepts.Goals as goal
 
 pub returns-then-not-passes_edge : goal.returns-then-not-passes_edge

@@ -1,6 +1,5 @@
 -- `accept::is_accepted` meets its contract.
 use Rattle.sides.specs.Beside.{taken_of}
-use borrow.Author.Rules.{rules}
 use Rattle.sides.proofs.accept.is_accepted.Goals as goal
 
 pub returns : goal.returns

@@ -1,6 +1,5 @@
 -- `accept::is_placed` meets its contract.
 use Rattle.sides.specs.Beside.{places_of}
-use borrow.Author.Rules.{rules}
 use Rattle.sides.proofs.accept.is_placed.Goals as goal
 
 pub returns : goal.returns

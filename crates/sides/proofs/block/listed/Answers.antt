@@ -1,7 +1,6 @@
 -- `block::listed` meets its contract: opened, packed, thinned by its own lines and by the cubics gathered beside them, and raised one after the other.
 use mathlib.Core.Path.{◌∙◌}
 use native.Mathlib.Omega.{arith}
-use borrow.Author.Rules.{rules}
 use Rattle.samples.specs.Four.{four_of}
 use Rattle.nine.specs.Nine.{three_of}
 use Rattle.sides.proofs.LeftLaws.{opened_plain, left-listed}

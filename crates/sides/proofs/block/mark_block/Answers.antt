@@ -1,6 +1,5 @@
 -- `block::mark_block` meets its contract: where no word has a bit there is nothing to list.
 use native.Mathlib.Omega.{arith}
-use borrow.Author.Rules.{rules}
 use Rattle.samples.specs.Four.{four_of}
 use Rattle.nine.specs.Nine.{three_of}
 use Rattle.sides.proofs.BlockLaws.{reach_all, own_filled, filled_none, rings-with}

@@ -1,6 +1,5 @@
 -- `own::is_reached` meets its contract.
 use Rattle.sides.specs.Beside.{upright_of}
-use borrow.Author.Rules.{rules}
 use Rattle.sides.proofs.own.is_reached.Goals as goal
 
 pub returns : goal.returns

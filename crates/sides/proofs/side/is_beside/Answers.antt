@@ -1,6 +1,5 @@
 -- `side::is_beside` meets its contract.
 use Rattle.sides.specs.Beside.{beside_of}
-use borrow.Author.Rules.{rules}
 use Rattle.sides.proofs.side.is_beside.Goals as goal
 
 pub returns : goal.returns

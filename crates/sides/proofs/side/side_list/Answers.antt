@@ -1,11 +1,7 @@
 -- `side::side_list` meets its contract. The loop's invariant: the first j entries are thinned to m, the others are as they were.
 use mathlib.Core.Path.{◌≡◌}
-use mathlib.Core.Bool.{true}
-use Prim.Native.Nat.{◌≤◌, ◌-◌}
 use native.Mathlib.Omega.{arith}
-use borrow.Author.Rules.{rules}
-use Rattle.sides.specs.Beside.{beside_of}
-use Rattle.rivals.proofs.ListLaws.{Thinning, thinning_none, thinning_code, thinning_more}
+use Rattle.rivals.proofs.ListLaws.{thinning_none, thinning_code, thinning_more}
 use Rattle.sides.proofs.side.side_list.Goals as goal
 
 pub loop-j-init : goal.loop-j-init

@@ -2,10 +2,8 @@
 use mathlib.Core.Path.{◌≡◌}
 use mathlib.Core.Bool.{true}
 use Prim.Native.Nat.{◌≤◌, ◌-◌}
-use native.Mathlib.Omega.{arith}
-use borrow.Author.Rules.{rules}
 use Rattle.sides.specs.Beside.{beside_of}
-use Rattle.rivals.proofs.ListLaws.{Thinning, thinning_none, thinning_code, thinning_more}
+use Rattle.rivals.proofs.ListLaws.{Thinning}
 use Rattle.sides.proofs.side.side_list.Given as goal
 
 abbrev pub invariant-loop-j : goal.invariant-loop-j

@@ -3,7 +3,6 @@ use Prim.Native.Nat.{◌-◌}
 use native.Mathlib.Omega.{arith}
 use Rattle.samples.specs.Level.{maps_of}
 use Rattle.sweep.proofs.PassLaws.{height-fits, block_begun}
-use borrow.Author.Rules.{rules}
 use Rattle.sweep.proofs.block.refresh.Goals as goal
 
 pub sweep-requires : goal.sweep-requires

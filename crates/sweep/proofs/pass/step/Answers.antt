@@ -4,7 +4,6 @@ use native.Mathlib.Omega.{arith}
 use Rattle.samples.specs.Level.{maps_of}
 use Rattle.sweep.proofs.ReadLaws.{a_column, column_small, reach_map, filled_map}
 use Rattle.sweep.proofs.PassLaws.{under-kept, before-first, before-next}
-use borrow.Author.Rules.{rules}
 use Rattle.sweep.proofs.pass.step.Goals as goal
 
 pub overflow_mul-mid : goal.overflow_mul-mid

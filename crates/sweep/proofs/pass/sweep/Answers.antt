@@ -1,11 +1,9 @@
 -- `pass::sweep` meets its contract. The loop's invariant: what stands before the column col.
-use Prim.Native.Nat.{ℕ, ◌-◌, ◌≤◌}
+use Prim.Native.Nat.{ℕ}
 use native.Mathlib.Omega.{arith}
 use lib.ListN.{length-replicate}
 use lib.Ieee.{Float}
 use Rattle.float.specs.Num.{f0}
-use Rattle.samples.specs.Level.{maps_of}
-use Rattle.sweep.specs.Ruled.{Before}
 use Rattle.sweep.proofs.PassLaws.{before-none, before-all}
 use Rattle.sweep.proofs.pass.sweep.Goals as goal
 

@@ -1,12 +1,7 @@
 -- `pass::sweep` meets its contract. The loop's invariant: what stands before the column col.
-use Prim.Native.Nat.{ℕ, ◌-◌, ◌≤◌}
-use native.Mathlib.Omega.{arith}
-use lib.ListN.{length-replicate}
-use lib.Ieee.{Float}
-use Rattle.float.specs.Num.{f0}
+use Prim.Native.Nat.{◌-◌, ◌≤◌}
 use Rattle.samples.specs.Level.{maps_of}
 use Rattle.sweep.specs.Ruled.{Before}
-use Rattle.sweep.proofs.PassLaws.{before-none, before-all}
 use Rattle.sweep.proofs.pass.sweep.Given as goal
 
 abbrev pub invariant-loop-col : goal.invariant-loop-col
