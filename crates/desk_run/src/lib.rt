@@ -1,5 +1,6 @@
 // Detection with the set found in a slot of the desks' table.
 #![tactic(auto)]
+
 ghost use Rattle.std.specs.Prelude.{◌≡◌};
 ghost use Rattle.detect.specs.Detect.{outcome};
 ghost use Rattle.desk_run.specs.Run.{run_of};

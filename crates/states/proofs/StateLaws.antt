@@ -5,7 +5,7 @@ use mathlib.Core.Path.{◌≡◌, refl, sym, ap, ◌∙◌}
 use mathlib.Core.Logic.{inl}
 use mathlib.Core.List.{List, [], ◌∷◌, ◌++◌, append_assoc}
 use lib.Dec.{T}
-use lib.ListN.{length, get_or, set, take, drop, length-append, length-drop, get_or-append}
+use lib.ListN.{length, get_or, take, drop, length-append, length-drop, get_or-append}
 use lib.Seq.{sets, sets-eq, length-sets, length-take-le, ext_get_or, get_or-take, get_or-drop, get_or-append-add}
 use lib.Ieee.{Float, binary32, fits, of_bits}
 use Rattle.words.specs.Words.{word_bytes, float_bytes, word_from, float_from, floats_at}

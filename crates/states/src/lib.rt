@@ -1,5 +1,6 @@
 // The feed over bytes: its state lies in a lent buffer, which any language can hold, and any bytes at all make some state.
 #![tactic(auto)]
+
 mod bytes; // bytes.rt: the state read and written
 
 ghost use Rattle.std.specs.Prelude.{◌≡◌, length};

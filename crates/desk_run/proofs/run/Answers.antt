@@ -1,5 +1,4 @@
 -- `run` meets its contract.
-use borrow.Author.Rules.{rules}
 use borrow.Author.Tests.{not-true, not-false}
 use mathlib.Core.Path.{sym, ap, ◌∙◌}
 use Rattle.tables.specs.declared.Set.{Set}

@@ -7,7 +7,6 @@ use Rattle.feed.specs.declared.Answer.TheVariants.{Taken, Refused}
 use Rattle.feed.specs.Feed.{column_of}
 use Rattle.states.specs.Bytes.{column_left_by}
 use Rattle.states.proofs.CallLaws.{column_short, column_by, position_small}
-use borrow.Author.Rules.{rules}
 use Rattle.states.proofs.column.Goals as goal
 
 pub returns-then-state-lt564 : goal.returns-then-state-lt564

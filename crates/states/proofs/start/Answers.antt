@@ -3,7 +3,6 @@ use native.Mathlib.Omega.{arith}
 use lib.ListN.{length}
 use Rattle.tables.specs.declared.Checked.TheVariants.{Fine}
 use Rattle.states.proofs.CallLaws.{own-answer, sound, start-bad, start-short, start_fine}
-use borrow.Author.Rules.{rules}
 use Rattle.states.proofs.start.Goals as goal
 
 pub returns-then-state-lt564 : goal.returns-then-state-lt564

@@ -1,5 +1,4 @@
 -- `bytes::advance` meets its contract.
-use borrow.Author.Rules.{rules}
 use Rattle.states.proofs.bytes.advance.Goals as goal
 
 pub returns : goal.returns

@@ -1,6 +1,5 @@
 -- `bytes::put_numbers` meets its contract.
 use Rattle.states.proofs.StateLaws.{numbers_parts}
-use borrow.Author.Rules.{rules}
 use Rattle.states.proofs.bytes.put_numbers.Goals as goal
 
 pub returns : goal.returns

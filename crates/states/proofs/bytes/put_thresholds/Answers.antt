@@ -1,6 +1,5 @@
 -- `bytes::put_thresholds` meets its contract.
 use Rattle.states.proofs.StateLaws.{thresholds_parts}
-use borrow.Author.Rules.{rules}
 use Rattle.states.proofs.bytes.put_thresholds.Goals as goal
 
 pub returns : goal.returns

@@ -1,6 +1,5 @@
 -- `bytes::state_of` meets its contract.
 use Rattle.states.specs.Bytes.{state_of}
-use borrow.Author.Rules.{rules}
 use Rattle.states.proofs.bytes.state_of.Goals as goal
 
 pub returns : goal.returns

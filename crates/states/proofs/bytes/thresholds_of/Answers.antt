@@ -1,6 +1,5 @@
 -- `bytes::thresholds_of` meets its contract.
 use Rattle.states.specs.Bytes.{state_of}
-use borrow.Author.Rules.{rules}
 use Rattle.states.proofs.bytes.thresholds_of.Goals as goal
 
 pub returns : goal.returns

@@ -2,7 +2,6 @@
 use native.Mathlib.Omega.{arith}
 use lib.Seq.{take_all}
 use Rattle.states.proofs.StateLaws.{opened_parts}
-use borrow.Author.Rules.{rules}
 use Rattle.states.proofs.bytes.write_state.Goals as goal
 
 pub returns : goal.returns
