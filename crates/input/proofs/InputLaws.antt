@@ -15,7 +15,6 @@ use Rattle.words.specs.Words.{word_from, floats_at}
 use Rattle.words.proofs.WordsLaws.{length-floats_at}
 use Rattle.tables.specs.declared.Refusal.{Refusal}
 use Rattle.tables.specs.declared.Refusal.TheVariants.{Size, Level}
-use Rattle.tables.specs.declared.Checked.{Checked}
 use Rattle.tables.specs.declared.Checked.TheVariants.{Fine, Bad}
 use Rattle.tables.specs.Refusal.{unless, first_of}
 use Rattle.tables.proofs.RefusalLaws.{unless-fine}
