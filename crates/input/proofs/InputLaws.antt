@@ -2,18 +2,21 @@
 use Prim.Native.Nat.{ℕ, ◌+◌, ◌*◌, ◌≤◌, ◌<◌}
 use native.Mathlib.Nat.{mul-le-mul, mul-le-mul_right}
 use native.Mathlib.Omega.{arith}
-use mathlib.Core.Path.{◌≡◌, sym, ap, ◌∙◌}
+use mathlib.Core.Bool.{Bool, true, false, cond, not, ◌||◌}
+use mathlib.Core.Path.{◌≡◌, refl, sym, ap, ◌∙◌}
 use mathlib.Core.List.{List, ◌++◌}
 use lib.ListN.{length, take, drop}
-use lib.Seq.{length-take-le, take_at}
+use lib.Seq.{length-take-le, take_at, get_or-take}
 use lib.Dec.{ltb, eqb}
 use lib.Ieee.{Float}
-use borrow.Author.Tests.{ltb-false, eqb-true, not-false}
+use borrow.Author.Tests.{ltb-false, le-ltb, eqb-true, ne_eqb, not-false}
 use Rattle.float.proofs.Bools.{neither}
-use Rattle.words.specs.Words.{floats_at}
+use Rattle.words.specs.Words.{word_from, floats_at}
 use Rattle.words.proofs.WordsLaws.{length-floats_at}
-use Rattle.tables.specs.declared.Checked.TheVariants.{Fine}
-use Rattle.tables.specs.Refusal.{first_of}
+use Rattle.tables.specs.declared.Refusal.{Refusal}
+use Rattle.tables.specs.declared.Refusal.TheVariants.{Size, Level}
+use Rattle.tables.specs.declared.Checked.TheVariants.{Fine, Bad}
+use Rattle.tables.specs.Refusal.{unless, first_of}
 use Rattle.tables.proofs.RefusalLaws.{unless-fine}
 use Rattle.input.specs.Input.{rows_from, cols_from, area_from, level_from, level_array, list_checks}
 
@@ -63,3 +66,32 @@ level_start b k p q = rw (p, q) (take_at (level_from b k) _ (area_from b) (lengt
 
 pub length-start : (b : List ℕ) (k : ℕ) {n : ℕ} {floats : List Float} → n ≡ area_from b → floats ≡ level_array b k → length (take n floats) ≡ n
 length-start b k p q = ap length (level_start b k p q) ∙ length-floats_at (area_from b) b (140 + k * area_from b) ∙ sym p
+
+-- ---- an input that is longer than the longest tile
+
+-- what refuses it: a side above 60, else its length
+unfoldable pub too_long : List ℕ → Refusal
+too_long b = cond (ltb 60 (rows_from b) || ltb 60 (cols_from b)) Size Level
+
+pub checks_long : (b : List ℕ) → 58160 < length b → first_of (list_checks b) ≡ Bad (too_long b)
+unfolding list_checks first_of unless too_long
+checks_long b h = rw (le-ltb (length b) 560 (omega arith)) (go (ltb 60 (rows_from b) || ltb 60 (cols_from b)) refl)
+  where
+    go : (t : Bool) → (ltb 60 (rows_from b) || ltb 60 (cols_from b)) ≡ t → unless t Size (unless (not (eqb (length b) (560 + 16 * area_from b))) Level Fine) ≡ Bad (cond t Size Level)
+    go true e = refl
+    go false e =
+        let side = neither (ltb 60 (rows_from b)) (ltb 60 (cols_from b)) e in
+        let most : area_from b ≤ 3600 = area_sixty (ltb-false _ _ side.0) (ltb-false _ _ side.1) in
+        rw (ne_eqb (length b) (560 + 16 * area_from b) (λ l. omega (arith, l, most, h)))
+
+pub word_cut : (n : ℕ) (b : List ℕ) (at : ℕ) → at + 4 ≤ n → word_from (take n b) at ≡ word_from b at
+unfolding word_from
+word_cut n b at h =
+    rw (get_or-take n b at 0 (omega arith), get_or-take n b (at + 1) 0 (omega arith), get_or-take n b (at + 2) 0 (omega arith), get_or-take n b (at + 3) 0 (omega arith))
+
+-- one byte more than the longest tile's is enough to see it
+pub checks_cut : (b : List ℕ) → 58160 < length b → first_of (list_checks (take 58161 b)) ≡ Bad (too_long b)
+unfolding too_long
+checks_cut b h =
+    checks_long (take 58161 b) (omega (arith, length-take-le 58161 b (omega arith)))
+    ∙ rw (word_cut 58161 b 548 (omega arith), word_cut 58161 b 552 (omega arith))

@@ -1,5 +1,6 @@
 // What the list program reads of its input: its checks, and the parts of a tile that passes them.
 #![tactic(auto)]
+
 ghost use Rattle.std.specs.Prelude.{◌≡◌, ◌+◌, ◌*◌, ◌<◌, ◌≤◌, length};
 ghost use Rattle.tables.specs.declared.Checked.TheVariants.{Fine};
 ghost use Rattle.tables.specs.Refusal.{first_of};

@@ -1,5 +1,8 @@
 // The list program, stored with P9: map M under set T.
 #![tactic(auto)]
-fn main() {
-    lister::run();
+
+use std::io;
+
+fn main(rt: HostRuntime) -> io::Result<()> {
+    lister::run(&mut rt.stdin(), &mut rt.stdout())
 }

@@ -1,5 +1,8 @@
 // The list program, stored with P10: M with (2,4) of level 0 NaN.
 #![tactic(auto)]
-fn main() {
-    lister::run();
+
+use std::io;
+
+fn main(rt: HostRuntime) -> io::Result<()> {
+    lister::run(&mut rt.stdin(), &mut rt.stdout())
 }

@@ -3,10 +3,14 @@ use Prim.Native.Nat.{ℕ, ◌+◌, ◌*◌, ◌/◌, ◌≤◌, ◌<◌, min}
 use native.Mathlib.Nat.{zero-add}
 use native.Mathlib.Omega.{arith}
 use mathlib.Core.Bool.{Bool, true, false}
-use mathlib.Core.Path.{◌≡◌, refl, sym, ap, ◌∙◌}
+use mathlib.Core.Path.{◌≡◌, refl, sym, ap, ◌∙◌, subst}
+use Rattle.std.specs.Prelude.{Option, None, Some, Result, Ok, Err, IfSome, OnOk}
+use Rattle.std.specs.Io.KnownBytes.{Appends}
 use mathlib.Core.List.{List, [], ◌∷◌, ◌++◌}
 use lib.ListN.{length, take, drop, length-take, take-append-drop}
-use borrow.Author.Tests.{lt-ltb, le-ltb, ne_eqb}
+use lib.Dec.{ltb}
+use lib.Seq.{take_all}
+use borrow.Author.Tests.{lt-ltb, le-ltb, ltb-true, ltb-false, ne_eqb}
 use Rattle.io.specs.Counts.{IsPrefixLen}
 use Rattle.tables.specs.declared.Refusal.{Refusal}
 use Rattle.tables.specs.declared.Checked.{Checked}
@@ -25,6 +29,7 @@ use Rattle.detect.proofs.Promise.{answer-same, first-written}
 use Rattle.text.specs.Text.{lines_of, lines_in, found_line, refused_line, Wrote}
 use Rattle.text.proofs.TextLaws.{lines_of_bytes}
 use Rattle.input.specs.Input.{set_from, thresholds_from, rows_from, cols_from, octave_from, area_from, level_from, list_checks}
+use Rattle.input.proofs.InputLaws.{checks_long, checks_cut}
 use Rattle.lister.specs.Detect.{detect_from, maps_from}
 use Rattle.lister.specs.Output.{most_shown, printed, tile_output, checked_output, list_output, Begins}
 
@@ -152,3 +157,26 @@ module _ (b : List ℕ) where
       go Fine is e =
           list_found b _ is
           (detect-finds (set_from b) (thresholds_from b) (rows_from b) (cols_from b) (octave_from b) (level_from b 0) (level_from b 1) (level_from b 2) (level_from b 3) [] (laws.first_fine tile_checks e))
+
+-- ---- an input that is longer than the longest tile
+
+-- what follows one byte more than the longest tile's changes nothing
+pub list_cut : (b : List ℕ) → list_output (take 58161 b) ≡ list_output b
+unfolding list_output checked_output
+list_cut b = go (ltb 58160 (length b)) refl
+  where
+    go : (t : Bool) → ltb 58160 (length b) ≡ t → list_output (take 58161 b) ≡ list_output b
+    go false e = ap list_output (take_all 58161 b (omega (arith, ltb-false 58160 (length b) e)))
+    go true e =
+        let h : 58160 < length b = ltb-true 58160 (length b) e in
+        rw (checks_cut b h, checks_long b h)
+
+-- what is written of a reader's bytes, of which so many are read
+pub run_told : {U E : Type 0} (done : Result U E) (left old new : Option (List ℕ)) (size n r : ℕ) (b out : List ℕ) → size ≡ 58161
+    → IfSome left (λ xs. take n b ≡ take size xs) → Begins out r (list_output (take n b)) → OnOk done (Appends old new (take r out))
+    → OnOk done (IfSome left (λ xs. Appends old new (list_output xs)))
+run_told (Err e) left old new size n r b out long read text wrote = tt
+run_told (Ok u) None old new size n r b out long read text wrote = tt
+run_told (Ok u) (Some xs) old new size n r b out long read text wrote =
+    let cut : take n b ≡ take 58161 xs = read ∙ ap (λ (m : ℕ). take m xs) long in
+    subst (Appends old new) (text.bytes ∙ ap list_output cut ∙ list_cut xs) wrote

@@ -1,6 +1,8 @@
 // The list program's work on bytes: from its input to its output.
 #![tactic(auto)]
-ghost use Rattle.std.specs.Prelude.{◌≡◌, min};
+ghost use Rattle.std.specs.Prelude.{◌≡◌, min, length, take, IfOk, IfSome, OnOk};
+ghost use Rattle.std.specs.Io.{ReadsAtMost};
+ghost use Rattle.std.specs.Io.KnownBytes.{Appends};
 ghost use Rattle.io.specs.Counts.{IsPrefixLen};
 ghost use Rattle.tables.specs.declared.Checked.TheVariants.{Fine};
 ghost use Rattle.tables.specs.Refusal.{first_of};
@@ -10,7 +12,12 @@ ghost use Rattle.lister.specs.Detect.{detect_from};
 ghost use Rattle.lister.specs.Output.{most_shown, tile_output, list_output, Begins};
 
 use detect::Answer;
+use std::io;
+use std::io::{Read, Write};
 use tables::Checked;
+
+// How many bytes of the input are read: one more than the longest tile's.
+const INPUT: usize = 58161;
 
 // How many records are printed at most.
 const MOST_SHOWN: usize = 1300;
@@ -94,11 +101,29 @@ pub fn list(input: &[u8], out: &mut [u8; OUTPUT]) -> usize
     }
 }
 
-// Lists standard input, of which one byte more than the longest input is read, to standard output.
-pub fn run() {
-    let mut input = [0u8; 58161];
-    let n = io::read_full(0, &mut input);
+// Reads until the buffer is full or the reader ends, and answers how many bytes it put at the buffer's start.
+fn read_full<R: Read>(from: &mut R, buf: &mut [u8]) -> io::Result<usize>
+    ensures in_bounds { ReadsAtMost result buf.new }
+    ensures bytes { IfOk result (λ n. IfSome (R.remaining from.old) (λ xs. take n buf.new ≡ take (length buf.old) xs)) }
+{
+    let mut done = 0;
+    while done < buf.len() {
+        let n = from.read(&mut buf[done..])?;
+        if n == 0 {
+            break;
+        }
+        done += n;
+    }
+    Ok(done)
+}
+
+// Writes the output for what the reader gives, of which one byte more than the longest tile's is read. A read or a write that fails ends it.
+pub fn run<R: Read, W: Write>(from: &mut R, to: &mut W) -> io::Result<()>
+    ensures { OnOk result (IfSome (R.remaining from.old) (λ xs. Appends (W.contents to.old) (W.contents to.new) (list_output xs))) }
+{
+    let mut input = [0u8; INPUT];
+    let n = read_full(from, &mut input)?;
     let mut out = [0u8; OUTPUT];
     let r = list(&input[..n], &mut out);
-    io::write_all(1, &out[..r]);
+    to.write_all(&out[..r])
 }

@@ -1,5 +1,6 @@
 // Numbers and records as text, each from a place of the buffer on; each answers the next place.
 #![tactic(auto)]
+
 ghost use Rattle.std.specs.Prelude.{◌≡◌, [], ◌∷◌, ◌+◌, ◌*◌, ◌<◌, ◌≤◌, length, take, drop};
 ghost use Rattle.record.specs.Layout.{spot_width};
 ghost use Rattle.text.specs.Text.{line_width, hex_digit, hex_of, line_of, lines_in, decimal, found_line, refused_line, Wrote};

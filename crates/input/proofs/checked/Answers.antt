@@ -2,7 +2,6 @@
 use borrow.Author.Tests.{lt-ltb, le-ltb, eq-eqb, ne_eqb}
 use Rattle.tables.specs.Refusal.{unless, first_of}
 use Rattle.input.specs.Input.{list_checks}
-use borrow.Author.Rules.{rules}
 use Rattle.input.proofs.checked.Goals as goal
 
 pub returns-then-input-lt560 : goal.returns-then-input-lt560

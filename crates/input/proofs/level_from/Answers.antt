@@ -1,4 +1,5 @@
 -- `level_from` meets its contract.
+use Prim.Native.Nat.{ℕ, ◌≤◌}
 use native.Mathlib.Omega.{arith}
 use mathlib.Core.Path.{◌≡◌, sym}
 use lib.ListN.{length, take, replicate, length-replicate}
@@ -6,12 +7,11 @@ use lib.Seq.{length-take-le}
 use lib.Ieee.{binary32, of_bits}
 use Rattle.input.specs.Input.{level_array}
 use Rattle.input.proofs.InputLaws.{checks_tile, level_most, level_within, level_read}
-use borrow.Author.Rules.{rules}
 use Rattle.input.proofs.level_from.Goals as goal
 
 -- the part that is lent is as long as the level
-room : (c : After-floats-1) → length (take c.area_from-n.result (replicate 3600 (of_bits binary32 0))) ≡ c.area_from-n.result
-room c = length-take-le _ (replicate 3600 (of_bits binary32 0)) (rw length-replicate c.area_from-n.ensures.1)
+room : (n : ℕ) → n ≤ 3600 → length (take n (replicate 3600 (of_bits binary32 0))) ≡ n
+room n most = length-take-le n (replicate 3600 (of_bits binary32 0)) (rw length-replicate most)
 
 pub overflow_mul-k : goal.overflow_mul-k
 overflow_mul-k c = omega (arith, level_most c.requires.k_bound c.area_from-n.ensures.1)
@@ -20,12 +20,12 @@ pub overflow_add-k : goal.overflow_add-k
 overflow_add-k c = omega (arith, level_most c.requires.k_bound c.area_from-n.ensures.1)
 
 pub slice_bounds-read_floats-end : goal.slice_bounds-read_floats-end
-slice_bounds-read_floats-end c = sym (room c)
+slice_bounds-read_floats-end c = sym (room _ c.area_from-n.ensures.1)
 
 pub read_floats-requires : goal.read_floats-requires
 read_floats-requires c =
     let t = checks_tile _ c.requires.input_value in
-    rw (room c, t.long, ← c.area_from-n.ensures.0) (level_within c.args.k c.area_from-n.result c.requires.k_bound)
+    rw (room _ c.area_from-n.ensures.1, t.long, ← c.area_from-n.ensures.0) (omega (arith, level_within c.args.k c.area_from-n.result c.requires.k_bound))
 
 pub returns : goal.returns
 unfolding level_array

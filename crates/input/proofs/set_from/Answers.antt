@@ -1,7 +1,6 @@
 -- `set_from` meets its contract.
 use mathlib.Core.Path.{sym}
 use lib.Seq.{length-take-le}
-use borrow.Author.Rules.{rules}
 use Rattle.input.proofs.set_from.Goals as goal
 
 pub slice_bounds-read_set-end : goal.slice_bounds-read_set-end

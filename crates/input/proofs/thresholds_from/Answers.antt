@@ -1,5 +1,4 @@
 -- `thresholds_from` meets its contract.
-use borrow.Author.Rules.{rules}
 use Rattle.input.proofs.thresholds_from.Goals as goal
 
 pub returns : goal.returns

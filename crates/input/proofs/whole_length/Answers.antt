@@ -1,7 +1,6 @@
 -- `whole_length` meets its contract.
 use native.Mathlib.Omega.{arith}
 use Rattle.input.proofs.InputLaws.{area_sixty}
-use borrow.Author.Rules.{rules}
 use Rattle.input.proofs.whole_length.Goals as goal
 
 pub overflow_mul-result : goal.overflow_mul-result

@@ -1,6 +1,5 @@
 -- `push` meets its contract.
 use Rattle.text.proofs.TextLaws.{wrote_one}
-use borrow.Author.Rules.{rules}
 use Rattle.text.proofs.push.Goals as goal
 
 pub returns : goal.returns

@@ -1,7 +1,6 @@
 -- `put_hex` meets its contract.
 use Rattle.text.specs.Text.{hex_of}
 use Rattle.text.proofs.TextLaws.{wrote_append}
-use borrow.Author.Rules.{rules}
 use Rattle.text.proofs.put_hex.Goals as goal
 
 pub returns : goal.returns

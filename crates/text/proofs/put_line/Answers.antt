@@ -2,10 +2,10 @@
 use native.Mathlib.Omega.{arith}
 use mathlib.Core.Path.{◌≡◌, ◌∙◌}
 use mathlib.Core.List.{[], ◌∷◌}
-use Prim.Native.Nat.{◌≤◌, ◌-◌, ◌+◌, ◌*◌}
-use lib.ListN.{take, drop, get_or}
+use Prim.Native.Nat.{◌+◌, ◌*◌}
+use lib.ListN.{get_or}
 use Rattle.record.specs.Layout.{spot_width}
-use Rattle.text.specs.Text.{hex_of, line_of, Wrote}
+use Rattle.text.specs.Text.{hex_of, line_of}
 use Rattle.text.proofs.TextLaws.{wrote_none, wrote_append, length-hex_of, hex_next}
 use Rattle.text.proofs.put_line.Goals as goal
 

@@ -1,12 +1,9 @@
 -- `put_line` meets its contract. The loop's invariant: the hex digits of the first k bytes stand there.
-use native.Mathlib.Omega.{arith}
-use mathlib.Core.Path.{◌≡◌, ◌∙◌}
-use mathlib.Core.List.{[], ◌∷◌}
+use mathlib.Core.Path.{◌≡◌}
 use Prim.Native.Nat.{◌≤◌, ◌-◌, ◌+◌, ◌*◌}
-use lib.ListN.{take, drop, get_or}
+use lib.ListN.{take, drop}
 use Rattle.record.specs.Layout.{spot_width}
-use Rattle.text.specs.Text.{hex_of, line_of, Wrote}
-use Rattle.text.proofs.TextLaws.{wrote_none, wrote_append, length-hex_of, hex_next}
+use Rattle.text.specs.Text.{hex_of, Wrote}
 use Rattle.text.proofs.put_line.Given as goal
 
 abbrev pub invariant-loop-k : goal.invariant-loop-k

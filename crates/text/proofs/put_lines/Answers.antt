@@ -1,9 +1,8 @@
 -- `put_lines` meets its contract. The loop's invariant: the first i lines stand there.
 use native.Mathlib.Omega.{arith}
 use mathlib.Core.Path.{◌≡◌}
-use Prim.Native.Nat.{◌≤◌, ◌-◌, ◌+◌, ◌*◌}
 use native.Mathlib.Numerals.{add-one}
-use Rattle.text.specs.Text.{line_width, lines_in, Wrote}
+use Rattle.text.specs.Text.{lines_in}
 use Rattle.text.proofs.TextLaws.{wrote_none, wrote_append, length-record-line}
 use Rattle.text.proofs.put_lines.Goals as goal
 

@@ -1,12 +1,8 @@
 -- `put_text` meets its contract. The loop's invariant: the first k bytes stand there.
-use native.Mathlib.Omega.{arith}
 use mathlib.Core.Path.{◌≡◌}
-use Prim.Native.Nat.{◌≤◌, ◌-◌, ◌+◌, ◌<◌}
-use native.Mathlib.Numerals.{add-one}
+use Prim.Native.Nat.{◌≤◌, ◌-◌, ◌+◌}
 use lib.ListN.{take, length}
-use lib.Seq.{take-suc, take_all}
 use Rattle.text.specs.Text.{Wrote}
-use Rattle.text.proofs.TextLaws.{wrote_none, wrote_append}
 use Rattle.text.proofs.put_text.Given as goal
 
 abbrev pub invariant-loop-k : goal.invariant-loop-k
