@@ -1,5 +1,6 @@
 // Detection's face: its answer as a number and a value.
 #![tactic(auto)]
+
 ghost use Rattle.std.specs.Prelude.{◌≡◌};
 ghost use Rattle.face.specs.Face.{left};
 ghost use Rattle.face_detect.specs.Face.{packed, detect_face};

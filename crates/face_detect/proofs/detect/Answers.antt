@@ -1,5 +1,4 @@
 -- `detect` meets its contract.
-use borrow.Author.Rules.{rules}
 use Rattle.face_detect.specs.Face.{detect_face}
 use Rattle.face_detect.proofs.FaceLaws.{left_by_lem}
 use Rattle.face_detect.proofs.detect.Goals as goal

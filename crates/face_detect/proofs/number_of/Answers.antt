@@ -1,5 +1,4 @@
 -- `number_of` meets its contract.
-use borrow.Author.Rules.{rules}
 use Rattle.face_detect.specs.Face.{packed}
 use Rattle.face_detect.proofs.number_of.Goals as goal
 
