@@ -1,5 +1,6 @@
 // The detector's entries, each from the crate that has its promise.
 #![tactic(auto)]
+
 pub use desk_run::run;
 pub use desks::{claim, release, write};
 pub use detect::detect;

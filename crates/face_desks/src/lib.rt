@@ -1,5 +1,6 @@
 // The desks' face: their answers as numbers.
 #![tactic(auto)]
+
 ghost use Rattle.std.specs.Prelude.{◌≡◌};
 ghost use Rattle.desks.specs.Desks.{Claim, Write, Release};
 ghost use Rattle.face.specs.Face.{left};

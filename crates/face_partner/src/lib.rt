@@ -1,5 +1,6 @@
 // The face of the reader of a partner's list: its answer as numbers.
 #![tactic(auto)]
+
 ghost use Rattle.std.specs.Prelude.{◌≡◌};
 ghost use Rattle.face_partner.specs.Face.{told, found_told, reply_told, accept_face};
 

@@ -1,5 +1,6 @@
 // A scene's face: its answer as a number and a value.
 #![tactic(auto)]
+
 ghost use Rattle.std.specs.Prelude.{◌≡◌};
 ghost use Rattle.face_scene.specs.Face.{scene_packed, scene_left, scene_face};
 

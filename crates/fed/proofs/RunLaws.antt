@@ -169,7 +169,7 @@ module _ (pick : Four → List Float) (picks : (rows : ℕ) (g : Four) → Long 
   follows_refused s ring c cs r ih done rest e = (
     λ n taken. let q = r.is in let z : ◌≡◌ {A = ℕ} 0 1 = cc in let y : ⊥ = omega arith in absurd y,
     let P : After → Type 0 = λ o. Feeds pick (done ++ (level_after pick s ring (c ∷ cs) ++ rest)) o.state o.ring cs in
-    subst P (sym r.is) (rw (level_refused s ring c cs r) (ih done rest e)),
+        subst P (sym r.is) (rw (level_refused s ring c cs r) (ih done rest e)),
   )
 
   follows_taken : (s : State) (ring : Four) (c : Call) (cs : List Call) → Takes s c.columns ring c.out → Follows (next s) (stored s ring c.columns) cs → Follows s ring (c ∷ cs)
@@ -180,7 +180,7 @@ module _ (pick : Four → List Float) (picks : (rows : ℕ) (g : Four) → Long 
       let further = ih (done ++ x) rest (omega (arith, length-append done x, add-mul s.position 1 s.rows)) in (
         λ n taken. rw (level_taken s ring c cs t, append_assoc x) (column_there done x _ s.rows s.position e long),
         let P : After → Type 0 = λ o. Feeds pick (done ++ (level_after pick s ring (c ∷ cs) ++ rest)) o.state o.ring cs in
-        subst P (sym t.is) (rw (level_taken s ring c cs t, append_assoc x) (rw (append_assoc done x) at further)),
+            subst P (sym t.is) (rw (level_taken s ring c cs t, append_assoc x) (rw (append_assoc done x) at further)),
       )
 
   -- the columns that a run takes are those of the level that they make up, whatever follows it

@@ -1,5 +1,6 @@
 // Accepting a partner's list: whether it is the one that is due for the same levels, set, thresholds and octave, and where it first differs.
 #![tactic(auto)]
+
 mod check; // check.rt: the refusals
 mod pixels; // pixels.rt: the loops over the pixels
 

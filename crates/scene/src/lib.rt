@@ -1,5 +1,6 @@
 // Whole scenes: cut into tiles, each copied, detected and joined as a map of its own.
 #![tactic(auto)]
+
 mod run; // run.rt: the tiles one after the other
 
 ghost use Rattle.std.specs.Prelude.{◌≡◌};

@@ -1,5 +1,6 @@
 // One tile of a scene: what it lists goes, sized and with the tile's numbers, after the records of the tiles before it.
 #![tactic(auto)]
+
 mod list; // list.rt: the tile's spot list
 mod place; // place.rt: its records, sized and numbered
 

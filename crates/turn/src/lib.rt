@@ -1,5 +1,6 @@
 // One tile's turn: copied into the four slices, and what it lists laid after the records of the tiles before it.
 #![tactic(auto)]
+
 ghost use Rattle.std.specs.Prelude.{◌≡◌, ◌*◌, length, take};
 ghost use Rattle.tile.specs.Tile.{found_in, filling, fill_of, Fits};
 ghost use Rattle.scene_checks.specs.Checks.{SceneIn};
