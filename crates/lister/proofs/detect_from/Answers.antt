@@ -3,7 +3,6 @@ use native.Mathlib.Omega.{arith}
 use mathlib.Core.Path.{sym, ◌∙◌}
 use Rattle.input.proofs.InputLaws.{checks_tile, length-start}
 use Rattle.lister.proofs.DetectLaws.{detect_parts}
-use borrow.Author.Rules.{rules}
 use Rattle.lister.proofs.detect_from.Goals as goal
 
 pub count_from-rows-requires : goal.count_from-rows-requires

@@ -2,7 +2,6 @@
 use mathlib.Core.Path.{sym, ◌∙◌}
 use Rattle.lister.specs.Output.{checked_output, list_output}
 use Rattle.lister.proofs.OutputLaws.{wrote_begins, begins_counts}
-use borrow.Author.Rules.{rules}
 use Rattle.lister.proofs.list.Goals as goal
 
 pub list_tile-requires : goal.list_tile-requires

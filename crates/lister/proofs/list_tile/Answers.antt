@@ -2,18 +2,17 @@
 use native.Mathlib.Omega.{arith}
 use Rattle.text.proofs.TextLaws.{wrote_append}
 use Rattle.lister.proofs.OutputLaws.{wrote_begins, tile-found, tile-refused}
-use borrow.Author.Rules.{rules}
 use Prim.Native.Nat.{ℕ}
 use lib.ListN.{length-replicate}
 use Rattle.lister.proofs.list_tile.Goals as goal
 
 pub put_found-requires : goal.put_found-requires
-put_found-requires c = omega (arith, c.put_lines-end.ensures.0.long)
+put_found-requires c = omega (arith, c.put_lines-end.ensures.wrote.long)
 
 pub returns-in-Found : goal.returns-in-Found
 returns-in-Found c =
     let e = rw c.in-Found.is at c.detect_from-answer.ensures in
-    let lines = rw c.shown-printed.ensures at c.put_lines-end.ensures.0 in
+    let lines = rw c.shown-printed.ensures at c.put_lines-end.ensures.wrote in
     rw (tile-found _ _ _ (length-replicate {A = ℕ} 62400 0) e) at (wrote_begins (wrote_append lines c.put_found.ensures))
 
 pub returns-in-Refused : goal.returns-in-Refused

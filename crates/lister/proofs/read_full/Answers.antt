@@ -1,5 +1,5 @@
 -- `read_full` meets its contract.
-use Rattle.std.proofs.Common.{rules, length, ◌≡◌, ◌+◌, ◌≤◌}
+use Rattle.std.proofs.Common.{rules}
 use Rattle.std.proofs.lemmas.Slice.{overwrites}
 use Rattle.lister.proofs.ReadLaws.{consumes_next}
 use Rattle.lister.proofs.read_full.Goals as goal
