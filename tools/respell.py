@@ -9,12 +9,13 @@ libraries have keep their spelling. It prints each old name with its new one, an
 """
 import pathlib
 import re
+import shutil
 import sys
 
 dry = "--dry" in sys.argv
 rest = [word for word in sys.argv[1:] if word != "--dry"]
 root = pathlib.Path(rest[0] if rest else ".")
-kit = pathlib.Path("/opt/rattle/rattle")
+kit = pathlib.Path(shutil.which("rt")).resolve().parent.parent / "rattle"
 WORD = r"[^\s(){}\[\].,;:λ→×⊎¬⌜⌝«»@|\\`]+"
 #: a signature at the start of a line
 SIGNED = re.compile(r"^[ ]*(?:abbrev |unfoldable )?(?:pub )?(?:record |data )?(" + WORD + r")[ ]*(?:\(|\{|:(?!:))", re.M)
