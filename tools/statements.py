@@ -12,7 +12,7 @@ import sys
 
 WORD = r"[^\s(){}\[\].,;:λ→×⊎¬⌜⌝«»@|\\`]+"
 SIGNED = re.compile(r"^(\s*)((?:abbrev |unfoldable )?(?:pub )?(?:record |data )?)(" + WORD + r")\s*(?:\(|\{|:(?!:))")
-ANSWERS = ("Proof.antt", "Answers.antt", "Invariants.antt", "Lib.antt")
+ANSWERS = re.compile(r"\b(?:Goals|Given) as goal\b")
 
 
 def whole(lines, start, indent):
@@ -27,17 +27,22 @@ def statements(root):
     """Each statement of a checkout, by its crate and name."""
     found = {}
     for path in sorted(pathlib.Path(root).glob("crates/*/proofs/**/*.antt")):
-        if path.name in ANSWERS:
+        text = re.sub(r"(?m)^\s*--.*\n", "", path.read_text())
+        if path.name == "Lib.antt" or ANSWERS.search(text):
             continue
-        lines = re.sub(r"(?m)^\s*--.*\n", "", path.read_text()).split("\n")
-        module = ""
+        lines = text.split("\n")
+        modules = []
         for at, line in enumerate(lines):
-            opened = re.match(r"^\s*module _ (.*) where", line)
-            if opened:
-                module = " ".join(opened.group(1).split())
+            indent = len(line) - len(line.lstrip())
+            if line.strip():
+                modules = [m for m in modules if m[0] < indent]
+            if re.match(r"^\s*module _\b", line):
+                last = next(k for k in range(at, len(lines)) if re.search(r"\bwhere$", lines[k]))
+                header = " ".join(" ".join(lines[at:last + 1]).split())
+                modules.append((indent, header.removeprefix("module _").removesuffix("where").strip()))
             signed = SIGNED.match(line)
             if signed and signed.group(2):
-                under = module if signed.group(1) else ""
+                under = " ".join(m[1] for m in modules)
                 crate = path.relative_to(root).parts[1]
                 found.setdefault((crate, signed.group(3)), []).append(f"{under} |- {whole(lines, at, len(signed.group(1)))}")
     return found

@@ -1,4 +1,5 @@
 -- What a call answers of detection's own list, and of that list edited: one record left out, put in twice or moved, or one byte changed. Assumes nothing.
+use Rattle.std.specs.Prelude.{Result, Ok}
 use Prim.Native.Nat.{ℕ, zero, suc, ◌+◌, ◌*◌, ◌/◌, ◌≤◌, ◌<◌}
 use native.Mathlib.Omega.{arith}
 use mathlib.Core.Bool.{false}
@@ -9,8 +10,8 @@ use lib.ListN.{length, get_or, take}
 use lib.Seq.{take_all}
 use lib.Ieee.{Float}
 use Rattle.tables.specs.declared.Set.{Set}
+use Rattle.tables.specs.declared.Refusal.{Refusal}
 use Rattle.tables.specs.declared.Thresholds.{Thresholds}
-use Rattle.tables.specs.declared.Checked.TheVariants.{Fine}
 use Rattle.tables.specs.Refusal.{first_of}
 use Rattle.record.specs.declared.Record.{Record}
 use Rattle.record.specs.Layout.{spot_width, record_bytes, bytes_of, written}
@@ -19,7 +20,6 @@ use Rattle.checks.specs.Checks.{detect_checks}
 use Rattle.samples.specs.Level.{Maps, maps_of}
 use Rattle.detect.specs.Due.{due}
 use Rattle.detect.specs.Detect.{detect_of}
-use Rattle.detect.specs.declared.Answer.TheVariants as detection
 use Rattle.detect.proofs.Promise.{first-written}
 use Rattle.detect.proofs.RefusalsLaws.{answer-found}
 use Rattle.demands.specs.List.{StandsAt, Stands, Rising}
@@ -28,8 +28,6 @@ use Rattle.demands.proofs.Places.{stands-left, stands-right, stands_cases}
 use Rattle.follow.specs.Follow.{finding_of}
 use Rattle.follow.specs.declared.Finding.{Finding}
 use Rattle.follow.specs.declared.Finding.TheVariants.{Yes, Extra, Absent, Different}
-use Rattle.partner.specs.declared.Reply.{Reply}
-use Rattle.partner.specs.declared.Reply.TheVariants.{Found}
 use Rattle.partner.specs.Partner.{partner_of}
 use Rattle.acceptance.specs.Meaning.{AllHeld}
 use Rattle.acceptance.specs.Claims.{Sub, changed, Ordering}
@@ -71,12 +69,12 @@ module _ (s : Set) (th : Thresholds) (rows cols octave : ℕ) (l0 l1 l2 l3 : Lis
   abbrev ds : List Record
   ds = due maps
 
-  abbrev reply : List ℕ → Reply
+  abbrev reply : List ℕ → Result Finding Refusal
   reply b = partner_of s th rows cols octave l0 l1 l2 l3 b
 
   -- Detection's own output is answered yes.
-  pub own-accepted : (out : List ℕ) (n : ℕ) → (detect_of s th rows cols octave l0 l1 l2 l3 out).answer ≡ detection.Found n → n * spot_width ≤ length out
-      → reply (take (n * spot_width) (detect_of s th rows cols octave l0 l1 l2 l3 out).buffer) ≡ Found Yes
+  pub own-accepted : (out : List ℕ) (n : ℕ) → (detect_of s th rows cols octave l0 l1 l2 l3 out).answer ≡ Ok n → n * spot_width ≤ length out
+      → reply (take (n * spot_width) (detect_of s th rows cols octave l0 l1 l2 l3 out).buffer) ≡ Ok Yes
   unfolding detect_of
   own-accepted out n e room =
       let p = first-written s th rows cols octave l0 l1 l2 l3 out n e in
@@ -84,33 +82,33 @@ module _ (s : Set) (th : Thresholds) (rows cols octave : ℕ) (l0 l1 l2 l3 : Lis
       let bytes : take (n * spot_width) (detect_of s th rows cols octave l0 l1 l2 l3 out).buffer ≡ bytes_of ds = ap (λ (k : ℕ). take (k * spot_width) (detect_of s th rows cols octave l0 l1 l2 l3 out).buffer) (sym all) ∙ p.1 ∙ ap bytes_of (take_all (length out / spot_width) ds (omega (arith, p.0))) in
       (yes_due s th rows cols octave l0 l1 l2 l3 (answer-found _ maps out n e) _).1 bytes
 
-  module _ (fine : first_of (detect_checks (length l0) (length l1) (length l2) (length l3) rows cols octave th s) ≡ Fine) where
+  module _ (fine : first_of (detect_checks (length l0) (length l1) (length l2) (length l3) rows cols octave th s) ≡ Ok tt) where
     -- a list of due records, where the due list is the one that is edited
-    answered : (whole gs : List Record) (a : Finding) → ds ≡ whole → Sub gs whole → (AllHeld whole → Rising whole → finding_of whole (bytes_of gs) ≡ a) → reply (bytes_of gs) ≡ Found a
+    answered : (whole gs : List Record) (a : Finding) → ds ≡ whole → Sub gs whole → (AllHeld whole → Rising whole → finding_of whole (bytes_of gs) ≡ a) → reply (bytes_of gs) ≡ Ok a
     answered whole gs a is sub found =
         sub-found s th rows cols octave l0 l1 l2 l3 fine gs a (subst (Sub gs) (sym is) sub)
         (ap (λ (l : List Record). finding_of l (bytes_of gs)) is ∙ found (subst AllHeld is (all_held s th rows cols octave l0 l1 l2 l3 fine)) (subst Rising is (list_rises maps)))
 
     -- One record left out: it is absent, at its own index.
-    pub left-out-absent : (front : List Record) (d : Record) (back : List Record) → ds ≡ front ++ (d ∷ back) → reply (bytes_of (front ++ back)) ≡ Found (Absent (length front))
+    pub left-out-absent : (front : List Record) (d : Record) (back : List Record) → ds ≡ front ++ (d ∷ back) → reply (bytes_of (front ++ back)) ≡ Ok (Absent (length front))
     left-out-absent front d back is = answered (front ++ (d ∷ back)) (front ++ back) (Absent (length front)) is (both_parts front (d ∷ back) back (stands-next d back)) (edited.left_out front d back)
 
     -- A record put in again behind itself: it is extra, where it was put.
-    pub again_extra : (front back : List Record) (i : ℕ) (d : Record) → ds ≡ front ++ back → StandsAt front i d → reply (bytes_of (front ++ (d ∷ back))) ≡ Found (Extra (length front))
+    pub again_extra : (front back : List Record) (i : ℕ) (d : Record) → ds ≡ front ++ back → StandsAt front i d → reply (bytes_of (front ++ (d ∷ back))) ≡ Ok (Extra (length front))
     again_extra front back i d is at =
         answered (front ++ back) (front ++ (d ∷ back)) (Extra (length front)) is
         (sub-append front (d ∷ back) (front ++ back) (stands-left front back) (sub-cons d back (front ++ back) (stands-left front back d (record { place = i; there = at })) (stands-right front back)))
         (edited.again_behind front back i d at)
 
     -- A record put in again before itself, with another one between: the due one is absent, where it was put.
-    pub again_absent : (front : List Record) (e : Record) (back : List Record) (i : ℕ) (d : Record) → ds ≡ front ++ (e ∷ back) → StandsAt back i d → reply (bytes_of (front ++ (d ∷ e ∷ back))) ≡ Found (Absent (length front))
+    pub again_absent : (front : List Record) (e : Record) (back : List Record) (i : ℕ) (d : Record) → ds ≡ front ++ (e ∷ back) → StandsAt back i d → reply (bytes_of (front ++ (d ∷ e ∷ back))) ≡ Ok (Absent (length front))
     again_absent front e back i d is at =
         answered (front ++ (e ∷ back)) (front ++ (d ∷ e ∷ back)) (Absent (length front)) is
         (both_parts front (e ∷ back) (d ∷ e ∷ back) (sub-cons d (e ∷ back) (e ∷ back) (stands-next e back d (record { place = i; there = at })) (λ r h. h)))
         (edited.again_before front e back i d at)
 
     -- A record moved to a later place: it is absent, where it stood.
-    pub moved-on-absent : (front : List Record) (d e : Record) (mid back : List Record) → ds ≡ front ++ (d ∷ e ∷ (mid ++ back)) → reply (bytes_of (front ++ (e ∷ (mid ++ (d ∷ back))))) ≡ Found (Absent (length front))
+    pub moved-on-absent : (front : List Record) (d e : Record) (mid back : List Record) → ds ≡ front ++ (d ∷ e ∷ (mid ++ back)) → reply (bytes_of (front ++ (e ∷ (mid ++ (d ∷ back))))) ≡ Ok (Absent (length front))
     moved-on-absent front d e mid back is =
         let whole : List Record = d ∷ e ∷ (mid ++ back) in
         let rest : Sub (mid ++ back) whole = λ r h. stands-next d (e ∷ (mid ++ back)) r (stands-next e (mid ++ back) r h) in
@@ -121,7 +119,7 @@ module _ (s : Set) (th : Thresholds) (rows cols octave : ℕ) (l0 l1 l2 l3 : Lis
         (edited.moved_on front d e mid back)
 
     -- A record moved to an earlier place: the one that is due there is absent.
-    pub moved_back_absent : (front : List Record) (e : Record) (mid : List Record) (d : Record) (back : List Record) → ds ≡ front ++ (e ∷ (mid ++ (d ∷ back))) → reply (bytes_of (front ++ (d ∷ e ∷ (mid ++ back)))) ≡ Found (Absent (length front))
+    pub moved_back_absent : (front : List Record) (e : Record) (mid : List Record) (d : Record) (back : List Record) → ds ≡ front ++ (e ∷ (mid ++ (d ∷ back))) → reply (bytes_of (front ++ (d ∷ e ∷ (mid ++ back)))) ≡ Ok (Absent (length front))
     moved_back_absent front e mid d back is =
         let whole : List Record = e ∷ (mid ++ (d ∷ back)) in
         let rest : Sub (mid ++ (d ∷ back)) whole = stands-next e (mid ++ (d ∷ back)) in
@@ -134,23 +132,23 @@ module _ (s : Set) (th : Thresholds) (rows cols octave : ℕ) (l0 l1 l2 l3 : Lis
 
     -- ---- one byte changed, where the record can still be read
 
-    module _ (front : List Record) (d : Record) (back : List Record) (o x : ℕ) (is : ds ≡ front ++ (d ∷ back)) (inside : o < spot_width) (readable : first_of (records_checks false rows cols (changed front d back o x)) ≡ Fine) where
+    module _ (front : List Record) (d : Record) (back : List Record) (o x : ℕ) (is : ds ≡ front ++ (d ∷ back)) (inside : o < spot_width) (readable : first_of (records_checks false rows cols (changed front d back o x)) ≡ Ok tt) where
       abbrev sent : List ℕ
       sent = changed front d back o x
 
-      answered_bytes : (a : Finding) → (AllHeld (front ++ (d ∷ back)) → finding_of (front ++ (d ∷ back)) sent ≡ a) → reply sent ≡ Found a
+      answered_bytes : (a : Finding) → (AllHeld (front ++ (d ∷ back)) → finding_of (front ++ (d ∷ back)) sent ≡ a) → reply sent ≡ Ok a
       answered_bytes a found =
           checked_found s th rows cols octave l0 l1 l2 l3 fine sent a readable
           (ap (λ (l : List Record). finding_of l sent) is ∙ found (subst AllHeld is (all_held s th rows cols octave l0 l1 l2 l3 fine)))
 
       -- A byte of the key or the polarity that is less than the due one: the record is extra.
-      pub less-extra : Ordering o → x < get_or (record_bytes d) o 0 → reply sent ≡ Found (Extra (length front))
+      pub less-extra : Ordering o → x < get_or (record_bytes d) o 0 → reply sent ≡ Ok (Extra (length front))
       less-extra p less = answered_bytes (Extra (length front)) (λ held. edited.changed-less front d back held o x inside p less)
 
       -- One that is more: the due record is absent.
-      pub more-absent : Ordering o → get_or (record_bytes d) o 0 < x → reply sent ≡ Found (Absent (length front))
+      pub more-absent : Ordering o → get_or (record_bytes d) o 0 < x → reply sent ≡ Ok (Absent (length front))
       more-absent p more = answered_bytes (Absent (length front)) (λ held. edited.changed-more front d back held o x inside p more)
 
       -- Any other byte: the record is different.
-      pub other_different : (Ordering o → ⊥) → (x ≡ get_or (record_bytes d) o 0 → ⊥) → reply sent ≡ Found (Different (length front))
+      pub other_different : (Ordering o → ⊥) → (x ≡ get_or (record_bytes d) o 0 → ⊥) → reply sent ≡ Ok (Different (length front))
       other_different out unlike = answered_bytes (Different (length front)) (λ held. edited.changed_other front d back held o x inside out unlike)

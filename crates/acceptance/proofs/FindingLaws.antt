@@ -22,10 +22,10 @@ use Rattle.follow.specs.Follow.{count_of, own_bytes, earlier, Earlier, meet_of, 
 use Rattle.acceptance.specs.Meaning.{Agree, DueAt, Means, Differs, extra, absent, different, AllHeld}
 use Rattle.follow.specs.declared.Finding.{Finding}
 use Rattle.follow.specs.declared.Finding.TheVariants.{Yes, Extra, Absent, Different}
-use Rattle.follow.specs.declared.Walk.{Walk}
-use Rattle.follow.specs.declared.Walk.TheVariants.{Going, Ended}
 use Rattle.follow.proofs.OrderLaws.{earlier_says, says_earlier, same-not-earlier, one_way, neither_earlier, not_self}
 use Rattle.follow.proofs.WalkLaws.{walk_ended, walk_none, walk-next, meet_end, meet_extra, meet_absent, meet_same, meet_different}
+use Rattle.std.specs.declared.ops.ControlFlow.{ControlFlow}
+use Rattle.std.specs.declared.ops.ControlFlow.TheVariants.{Continue, Break}
 
 -- ---- lists
 
@@ -77,15 +77,15 @@ module _ (b : List ℕ) (whole : length b ≡ count_of b * spot_width) where
   all-agree front i e h = sym (take_all (i * spot_width) b (omega arith)) ∙ e ∙ ap bytes_of (sym (append-nil front))
 
   -- the walk from the record i on
-  along : (rest front : List Record) (i : ℕ) → length front ≡ i → i ≤ count_of b → take (i * spot_width) b ≡ bytes_of front → Means (front ++ rest) b (end_of b (walk_of b (Going i) rest))
+  along : (rest front : List Record) (i : ℕ) → length front ≡ i → i ≤ count_of b → take (i * spot_width) b ≡ bytes_of front → Means (front ++ rest) b (end_of b (walk_of b (Continue i) rest))
   unfolding walk_of step_of end_of Means
   along [] front i l h e = go (ltb i (count_of b)) refl
     where
-      go : (x : Bool) → ltb i (count_of b) ≡ x → Means (front ++ []) b (end_of b (Going i))
+      go : (x : Bool) → ltb i (count_of b) ≡ x → Means (front ++ []) b (end_of b (Continue i))
       go true p = rw p (record { agree = agree-front front [] i l h e; given = ltb-true _ _ p; reason = inl (omega (arith, length-append front [])) })
       go false p = rw p (all-agree front i e (ltb-false _ _ p))
   along (d ∷ rest) front i l h e = go (ltb i (count_of b)) refl (earlier (record_at b i) d) refl (earlier d (record_at b i)) refl (same (record_bytes d) (own_bytes b i)) refl
-      (λ more same. subst (λ (ds : List Record). Means ds b (end_of b (walk_of b (Going (suc i)) rest))) (append_assoc front (d ∷ []) rest) (along rest (front ++ d ∷ []) (suc i) (snoc_length front d ∙ ap suc l) more (more_agrees front d i e same)))
+      (λ more same. subst (λ (ds : List Record). Means ds b (end_of b (walk_of b (Continue (suc i)) rest))) (append_assoc front (d ∷ []) rest) (along rest (front ++ d ∷ []) (suc i) (snoc_length front d ∙ ap suc l) more (more_agrees front d i e same)))
     where
       all : List Record
       all = front ++ d ∷ rest
@@ -93,11 +93,11 @@ module _ (b : List ℕ) (whole : length b ≡ count_of b * spot_width) where
       ag : Agree (front ++ d ∷ rest) b i
       ag = agree-front front (d ∷ rest) i l h e
 
-      ends : (a : Finding) → meet_of b i d ≡ Ended a → Means (front ++ d ∷ rest) b a → Means (front ++ d ∷ rest) b (end_of b (walk_of b (meet_of b i d) rest))
+      ends : (a : Finding) → meet_of b i d ≡ Break a → Means (front ++ d ∷ rest) b a → Means (front ++ d ∷ rest) b (end_of b (walk_of b (meet_of b i d) rest))
       ends a p q = rw (p, walk_ended b a rest) q
 
       go : (x : Bool) → ltb i (count_of b) ≡ x → (y : Bool) → earlier (record_at b i) d ≡ y → (z : Bool) → earlier d (record_at b i) ≡ z → (u : Bool) → same (record_bytes d) (own_bytes b i) ≡ u
-          → (suc i ≤ count_of b → record_bytes d ≡ own_bytes b i → Means (front ++ d ∷ rest) b (end_of b (walk_of b (Going (suc i)) rest)))
+          → (suc i ≤ count_of b → record_bytes d ≡ own_bytes b i → Means (front ++ d ∷ rest) b (end_of b (walk_of b (Continue (suc i)) rest)))
           → Means (front ++ d ∷ rest) b (end_of b (walk_of b (meet_of b i d) rest))
       go false p y q z r u s next =
           ends (Absent i) (meet_end b i d (ltb-false _ _ p))
@@ -166,28 +166,28 @@ module _ (ds : List Record) (held : AllHeld ds) (b : List ℕ) (whole : length b
     pub read_there : record_at b i ≡ here
     read_there = read_as i here at_here own_is
 
-    met : meet_of b i here ≡ Going (suc i)
+    met : meet_of b i here ≡ Continue (suc i)
     met =
         let r = read_there in
         let key : (record_at b i).key ≡ here.key = ap (λ (t : Record). t.key) r in
         let polarity : (record_at b i).polarity ≡ here.polarity = ap (λ (t : Record). t.polarity) r in
         meet_same b i here (omega (arith, a.in_given)) (same-not-earlier (record_at b i) here key polarity) (same-not-earlier here (record_at b i) (sym key) (sym polarity)) (rw own_is (same-own (record_bytes here)))
 
-    goes_on : walk_of b (Going i) (drop i ds) ≡ walk_of b (Going (suc i)) (drop (suc i) ds)
-    goes_on = ap (walk_of b (Going i)) (drop-cons ds i (record_at b 0) less) ∙ walk-next b i here (drop (suc i) ds) ∙ ap (λ (w : Walk). walk_of b w (drop (suc i) ds)) met
+    goes_on : walk_of b (Continue i) (drop i ds) ≡ walk_of b (Continue (suc i)) (drop (suc i) ds)
+    goes_on = ap (walk_of b (Continue i)) (drop-cons ds i (record_at b 0) less) ∙ walk-next b i here (drop (suc i) ds) ∙ ap (λ (w : ControlFlow Finding ℕ). walk_of b w (drop (suc i) ds)) met
 
   -- over records that agree the walk goes on
-  to : (i : ℕ) → Agree ds b i → walk_of b (Going 0) ds ≡ walk_of b (Going i) (drop i ds)
+  to : (i : ℕ) → Agree ds b i → walk_of b (Continue 0) ds ≡ walk_of b (Continue i) (drop i ds)
   to zero a = refl
   to (suc i) a = to i (before i a) ∙ goes_on i a
 
-  stops : (i : ℕ) (d : Record) (a : Finding) → Agree ds b i → StandsAt ds i d → meet_of b i d ≡ Ended a → finding_of ds b ≡ a
+  stops : (i : ℕ) (d : Record) (a : Finding) → Agree ds b i → StandsAt ds i d → meet_of b i d ≡ Break a → finding_of ds b ≡ a
   unfolding finding_of end_of
-  stops i d a g at e = ap (end_of b) (to i g ∙ ap (walk_of b (Going i)) (stands-drop ds i d at) ∙ walk-next b i d (drop (suc i) ds) ∙ ap (λ (w : Walk). walk_of b w (drop (suc i) ds)) e ∙ walk_ended b a (drop (suc i) ds))
+  stops i d a g at e = ap (end_of b) (to i g ∙ ap (walk_of b (Continue i)) (stands-drop ds i d at) ∙ walk-next b i d (drop (suc i) ds) ∙ ap (λ (w : ControlFlow Finding ℕ). walk_of b w (drop (suc i) ds)) e ∙ walk_ended b a (drop (suc i) ds))
 
-  past : (i : ℕ) → Agree ds b i → i ≡ length ds → finding_of ds b ≡ end_of b (Going i)
+  past : (i : ℕ) → Agree ds b i → i ≡ length ds → finding_of ds b ≡ end_of b (Continue i)
   unfolding finding_of
-  past i g e = ap (end_of b) (to i g ∙ ap (walk_of b (Going i)) (ap (λ (k : ℕ). drop k ds) e ∙ drop-length ds) ∙ walk_none b (Going i))
+  past i g e = ap (end_of b) (to i g ∙ ap (walk_of b (Continue i)) (ap (λ (k : ℕ). drop k ds) e ∙ drop-length ds) ∙ walk_none b (Continue i))
 
   pub finding_only : (a : Finding) → Means ds b a → finding_of ds b ≡ a
   unfolding Means end_of

@@ -1,4 +1,5 @@
 -- The record of a spot that the gates, the neighbours and the refinement let through is readable. Assumes nothing.
+use Rattle.std.specs.Prelude.{Some}
 use Prim.Native.Nat.{ℕ, ◌+◌, ◌*◌, ◌≤◌}
 use native.Mathlib.Omega.{arith}
 use mathlib.Core.Path.{◌≡◌, refl, sym, ap, ◌∙◌, subst}
@@ -19,7 +20,6 @@ use Rattle.float.proofs.Finite.{sum-finite, product_finite}
 use Rattle.moves.proofs.MovesLaws.{kept-nearby}
 use Rattle.refine.specs.Refine.{refine_by}
 use Rattle.refine.specs.declared.Spot.{Spot}
-use Rattle.refine.specs.declared.Refined.TheVariants.{Accepted}
 use Rattle.refine.proofs.RefineLaws.{accepted_displaced, index_inner}
 use Rattle.record.specs.Readable.{readable}
 use Rattle.record.proofs.ReadableLaws.{parts_readable}
@@ -58,7 +58,7 @@ module _ (P : ℕ → Prims) (allowed : Allowed (P 4)) (s : Set) (th : Threshold
   pub readable_test_never_fires : length nine ≡ 9 → f.rows ≤ 4096 → f.cols ≤ 4096 → f.octave ≤ 5 → Within 4 f row col → (band : Band)
       → gate_by (P 4) th (own_samples nine) (own_cubic s nine) sigma peak is_max ≡ true
       → ring_by P (cubics_at s nine) peak band is_max ≡ true
-      → (spot : Spot) → refine_by (P 4) s th.ratio (cubics_at s nine) (anchor_of row col sigma peak f.octave is_max) ≡ Accepted spot
+      → (spot : Spot) → refine_by (P 4) s th.ratio (cubics_at s nine) (anchor_of row col sigma peak f.octave is_max) ≡ Some spot
       → readable f.rows f.cols (record_of spot (own_samples nine) (row * f.cols + col)) ≡ true
   unfolding record_of anchor_of
   readable_test_never_fires nine_long rows-most cols-most octave-most inside band gates ring spot h =

@@ -1,4 +1,5 @@
 -- The list is the one by the Rust's own tests: the test that document 01 adds refuses nothing. Assumes nothing.
+use Rattle.std.specs.Prelude.{Option, Some, None, Ok}
 use Prim.Native.Nat.{ℕ, zero, suc, ◌+◌, ◌-◌, ◌*◌, ◌≤◌, ◌<◌}
 use native.Mathlib.Omega.{arith}
 use mathlib.Core.Path.{◌≡◌, refl, sym, ◌∙◌}
@@ -13,12 +14,8 @@ use Rattle.fit.specs.Prims.{Prims, Allowed, ours}
 use Rattle.fit.specs.Band.{band_by}
 use Rattle.refine.specs.Refine.{refine_by}
 use Rattle.refine.specs.declared.Spot.{Spot}
-use Rattle.refine.specs.declared.Refined.{Refined}
-use Rattle.refine.specs.declared.Refined.TheVariants.{Accepted, Rejected}
 use Rattle.record.specs.Readable.{readable}
 use Rattle.pixel.specs.declared.Frame.{Frame}
-use Rattle.pixel.specs.declared.Verdict.{Verdict}
-use Rattle.pixel.specs.declared.Verdict.TheVariants.{Nothing}
 use Rattle.pixel.specs.Gate.{sigma_of, peak_of, gate_by}
 use Rattle.pixel.specs.Ring.{ring_by}
 use Rattle.pixel.specs.Verdict.{whole_of, anchor_of, record_of, admit_of, verdict_by, verdict_of}
@@ -26,7 +23,6 @@ use Rattle.pixel.specs.Rules.{cubics_at, own_samples, own_cubic}
 use Rattle.samples.specs.Level.{Maps, maps_of, samples_at, nine_at, Within}
 use Rattle.detect.specs.Due.{due}
 use Rattle.detect.specs.Detect.{detect_of}
-use Rattle.detect.specs.declared.Answer.TheVariants.{Found}
 use Rattle.samples.proofs.LevelLaws.{length_nine}
 use Rattle.detect.proofs.RefusalsLaws.{found_passed}
 use Rattle.zeros.specs.Choices.{Choices, AllAllowed, all_ours, judge_by, pixel_due_by, row_due_by, rows_due_by, due_by}
@@ -35,18 +31,19 @@ use Rattle.zeros.proofs.ListNear.{due-ours, due~}
 use Rattle.admission.specs.Rust.{own_shape_by, kept_of, rust_verdict_by, rust_verdict_of, rust_judge_by, rust_row_by, rust_rows_by, rust_due_by, rust_due}
 use Rattle.admission.proofs.Samples.{samples_test_never_fires}
 use Rattle.admission.proofs.Accepted.{readable_test_never_fires}
+use Rattle.record.specs.declared.Record.{Record}
 
 -- ---- a pixel
 
 -- where each accepted spot's record is readable, asking for that changes nothing
-kept_admitted : (f : Frame) (l : List Float) (key : ℕ) (answer : Refined)
-    → ((spot : Spot) → answer ≡ Accepted spot → readable f.rows f.cols (record_of spot l key) ≡ true) → kept_of l key answer ≡ admit_of f l key answer
+kept_admitted : (f : Frame) (l : List Float) (key : ℕ) (answer : Option Spot)
+    → ((spot : Spot) → answer ≡ Some spot → readable f.rows f.cols (record_of spot l key) ≡ true) → kept_of l key answer ≡ admit_of f l key answer
 unfolding kept_of admit_of
-kept_admitted f l key (Accepted spot) h = rw (h spot refl)
-kept_admitted f l key Rejected h = refl
+kept_admitted f l key (Some spot) h = rw (h spot refl)
+kept_admitted f l key None h = refl
 
 -- a test that holds wherever two others do changes nothing beside them
-third_test : (w g r : Bool) (x y z : Verdict) → (g ≡ true → r ≡ true → (w ≡ true) × (x ≡ y)) → cond (g && r) x z ≡ cond (w && g && r) y z
+third_test : (w g r : Bool) (x y z : Option Record) → (g ≡ true → r ≡ true → (w ≡ true) × (x ≡ y)) → cond (g && r) x z ≡ cond (w && g && r) y z
 third_test true true true x y z h = (h refl refl).1
 third_test false true true x y z h = let never = (h refl refl).0 in cc
 third_test true true false x y z h = refl
@@ -64,7 +61,7 @@ module _ (P : ℕ → Prims) (allowed : Allowed (P 4)) (s : Set) (th : Threshold
       let sigma = sigma_of e is_max in
       let peak = peak_of e is_max in
       let band = band_by (P 4) s.sigmas sigma in
-      third_test (whole_of nine) (gate_by (P 4) th (own_samples nine) (own_cubic s nine) sigma peak is_max) (ring_by P (cubics_at s nine) peak band is_max) _ _ Nothing
+      third_test (whole_of nine) (gate_by (P 4) th (own_samples nine) (own_cubic s nine) sigma peak is_max) (ring_by P (cubics_at s nine) peak band is_max) _ _ None
       (λ gates ring. (
         samples_test_never_fires P s.scale th nine nine_long sigma peak band is_max gates ring,
         kept_admitted f (own_samples nine) (row * f.cols + col) (refine_by (P 4) s th.ratio (cubics_at s nine) (anchor_of row col sigma peak f.octave is_max))
@@ -117,7 +114,7 @@ due-by_the_rust m rows-most cols-most octave-most = due_untested all_ours (λ ro
 -- ---- a call
 
 module _ (s : Set) (th : Thresholds) (rows cols octave : ℕ) (l0 l1 l2 l3 : List Float) (out : List ℕ) (n : ℕ)
-    (found : (detect_of s th rows cols octave l0 l1 l2 l3 out).answer ≡ Found n) where
+    (found : (detect_of s th rows cols octave l0 l1 l2 l3 out).answer ≡ Ok n) where
   abbrev maps : Maps
   maps = maps_of l0 l1 l2 l3 (record { rows = rows; cols = cols; octave = octave }) s th
 

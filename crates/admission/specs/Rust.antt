@@ -1,5 +1,5 @@
 -- What the Rust's own tests let through: the verdict and the list without the test that document 01 adds, for any choice of zeros that the Rust leaves open. Definitions only.
-use Rattle.std.specs.Prelude.{ℕ, zero, suc, ◌+◌, ◌-◌, ◌*◌, Bool, true, false, cond, ◌&&◌, List, [], ◌++◌, Float}
+use Rattle.std.specs.Prelude.{ℕ, zero, suc, ◌+◌, ◌-◌, ◌*◌, Bool, true, false, cond, ◌&&◌, List, [], ◌++◌, Float, Option, Some, None}
 use Rattle.tables.specs.declared.Set.{Set}
 use Rattle.tables.specs.declared.Thresholds.{Thresholds}
 use Rattle.fit.specs.Cubic.{◌at◌}
@@ -8,12 +8,8 @@ use Rattle.fit.specs.Envelope.{shape_by}
 use Rattle.fit.specs.Band.{band_by}
 use Rattle.fit.specs.declared.Envelope.{Envelope}
 use Rattle.refine.specs.Refine.{refine_by}
-use Rattle.refine.specs.declared.Refined.{Refined}
-use Rattle.refine.specs.declared.Refined.TheVariants.{Accepted, Rejected}
 use Rattle.record.specs.declared.Record.{Record}
 use Rattle.pixel.specs.declared.Frame.{Frame}
-use Rattle.pixel.specs.declared.Verdict.{Verdict}
-use Rattle.pixel.specs.declared.Verdict.TheVariants.{Listed, Nothing}
 use Rattle.pixel.specs.Gate.{sigma_of, peak_of, gate_by}
 use Rattle.pixel.specs.Ring.{ring_by}
 use Rattle.pixel.specs.Verdict.{anchor_of, record_of}
@@ -21,18 +17,19 @@ use Rattle.pixel.specs.Rules.{cubics_at, own_samples, own_cubic}
 use Rattle.samples.specs.Level.{Maps, nine_at}
 use Rattle.pixel.specs.Listed.{listed}
 use Rattle.zeros.specs.Choices.{Choices, all_ours}
+use Rattle.refine.specs.declared.Spot.{Spot}
 
 -- the envelope of a pixel's own samples, by a choice of zeros
 abbrev pub own_shape_by : Prims → Set → List (List Float) → Envelope
 own_shape_by p s nine = shape_by p (own_cubic s nine) s.sigmas (own_samples nine at 0) (own_samples nine at 3)
 
 -- an accepted spot's record is listed: it is not asked whether the join accepts it
-unfoldable pub kept_of : List Float → ℕ → Refined → Verdict
-kept_of l key (Accepted spot) = Listed (record_of spot l key)
-kept_of l key Rejected = Nothing
+unfoldable pub kept_of : List Float → ℕ → Option Spot → Option Record
+kept_of l key (Some spot) = Some (record_of spot l key)
+kept_of l key None = None
 
 -- The verdict as verdict_by has it, but it is not asked whether all samples are finite: the pixel's own gates pass, its peak beats the eight neighbours, and the refinement accepts.
-unfoldable pub rust_verdict_by : (ℕ → Prims) → Set → Thresholds → Frame → List (List Float) → ℕ → ℕ → Bool → Verdict
+unfoldable pub rust_verdict_by : (ℕ → Prims) → Set → Thresholds → Frame → List (List Float) → ℕ → ℕ → Bool → Option Record
 rust_verdict_by P s th f nine row col is_max =
     let k = cubics_at s nine in
     let l = own_samples nine in
@@ -42,14 +39,14 @@ rust_verdict_by P s th f nine row col is_max =
     cond
     (gate_by (P 4) th l (own_cubic s nine) sigma peak is_max && ring_by P k peak (band_by (P 4) s.sigmas sigma) is_max)
     (kept_of l (row * f.cols + col) (refine_by (P 4) s th.ratio k (anchor_of row col sigma peak f.octave is_max)))
-    Nothing
+    None
 
 -- with this build's choices of zeros
-abbrev pub rust_verdict_of : Set → Thresholds → Frame → List (List Float) → ℕ → ℕ → Bool → Verdict
+abbrev pub rust_verdict_of : Set → Thresholds → Frame → List (List Float) → ℕ → ℕ → Bool → Option Record
 rust_verdict_of = rust_verdict_by (λ i. ours)
 
 -- the verdict on a pixel of the map
-unfoldable pub rust_judge_by : Choices → Maps → ℕ → ℕ → Bool → Verdict
+unfoldable pub rust_judge_by : Choices → Maps → ℕ → ℕ → Bool → Option Record
 rust_judge_by P m row col is_max = rust_verdict_by (P row col is_max) m.set m.thresholds m.frame (nine_at m row col) row col is_max
 
 -- what the first n judged pixels of a row list, the minimum before the maximum at each

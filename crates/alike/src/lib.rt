@@ -9,11 +9,5 @@ pub fn is_same<'a>(a: &'a [u8], b: &'a [u8]) -> bool
     requires { length a.now ≡ length b.now }
     ensures { result ≡ same a.now b.now }
 {
-    let mut alike = true;
-    let mut k: usize = 0;
-    while k < a.len() {
-        alike = alike & (a[k] == b[k]);
-        k += 1;
-    }
-    alike
+    a == b
 }

@@ -49,7 +49,7 @@ pub extern "C" fn uramsheg_detect<'a>(
 // Whether the record holds a good set: 0, or 4 where it is refused.
 #[unsafe(no_mangle)]
 pub extern "C" fn uramsheg_set_check(set: &[u8]) -> u32
-    ensures { result ≡ check_face (read_set_of set.now).answer }
+    ensures { result ≡ check_face (read_set_of set.now) }
 {
     alp_c::uramsheg_set_check(set)
 }

@@ -3,7 +3,7 @@ ghost use Rattle.std.specs.Prelude.{◌≡◌};
 ghost use Rattle.face.specs.Face.{thresholds_of};
 ghost use Rattle.face_partner.specs.Face.{told, accept_face};
 
-use tables::Thresholds;
+use crate::thresholds_of;
 
 // Whether the list is the one that is due for the four levels, under the set in the record set. Answers 0, with what was found in finding and the index of the
 // first record that differs in value; or the refusal's number, with 0 in finding and the value that goes with it in value.
@@ -29,13 +29,7 @@ pub fn uramsheg_accept<'a>(
         ≡ accept_face set.now (thresholds_of peak sigma ratio low high) rows cols octave
         l0.now l1.now l2.now l3.now list.now }
 {
-    let thresholds = Thresholds {
-        peak: peak,
-        sigma: sigma,
-        ratio: ratio,
-        low: low,
-        high: high,
-    };
+    let thresholds = thresholds_of(peak, sigma, ratio, low, high);
     face_partner::accept(
         set, thresholds, rows, cols, octave, l0, l1, l2, l3, list, finding, value,
     )

@@ -4,7 +4,7 @@ ghost use Rattle.desks.specs.Desks.{Claim, Write, Release};
 ghost use Rattle.face.specs.Face.{left, thresholds_of};
 ghost use Rattle.face_desks.specs.Face.{table_left, call_face, run_face};
 
-use tables::Thresholds;
+use crate::thresholds_of;
 
 // Claims a free slot of the table for a desk. Answers 0, or the refusal's number, with the table as it was.
 pub fn uramsheg_desk_claim(table: &mut [u8], desk: usize, slot: usize) -> u32
@@ -51,13 +51,7 @@ pub fn uramsheg_desk_run<'a>(
         ≡ run_face table.now slot (thresholds_of peak sigma ratio low high) rows cols octave
         l0.now l1.now l2.now l3.now out.old }
 {
-    let th = Thresholds {
-        peak: peak,
-        sigma: sigma,
-        ratio: ratio,
-        low: low,
-        high: high,
-    };
+    let th = thresholds_of(peak, sigma, ratio, low, high);
     face_desks::run(
         table, slot, th, rows, cols, octave, l0, l1, l2, l3, out, value,
     )

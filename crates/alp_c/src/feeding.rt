@@ -4,7 +4,7 @@ ghost use Rattle.samples.specs.Four.{four_of};
 ghost use Rattle.states.specs.Bytes.{start_left, start_bytes, column_left, column_bytes};
 ghost use Rattle.face.specs.Face.{thresholds_of};
 
-use tables::Thresholds;
+use crate::thresholds_of;
 
 // Begins a feed under the set in the record set, and writes its state. Answers 0, or the refusal's number.
 pub fn uramsheg_feed_start<'a>(
@@ -27,13 +27,7 @@ pub fn uramsheg_feed_start<'a>(
         ≡ start_bytes set.now (thresholds_of peak sigma ratio low high) rows cols octave
         (length r0.now) (length r1.now) (length r2.now) (length r3.now) state.old }
 {
-    let thresholds = Thresholds {
-        peak: peak,
-        sigma: sigma,
-        ratio: ratio,
-        low: low,
-        high: high,
-    };
+    let thresholds = thresholds_of(peak, sigma, ratio, low, high);
     states::start(set, thresholds, rows, cols, octave, r0, r1, r2, r3, state)
 }
 

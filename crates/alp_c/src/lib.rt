@@ -28,6 +28,19 @@ pub use storing::{
 };
 use tables::Thresholds;
 
+// The five thresholds as one value.
+fn thresholds_of(peak: f32, sigma: f32, ratio: f32, low: f32, high: f32) -> Thresholds
+    ensures { result ≡ thresholds_of peak sigma ratio low high }
+{
+    Thresholds {
+        peak,
+        sigma,
+        ratio,
+        low,
+        high,
+    }
+}
+
 // Lists the spots of four levels in the buffer out, under the set in the record set. Answers 0, with the count in value, or the refusal's number, with
 // the value that goes with it in value.
 pub fn uramsheg_detect<'a>(
@@ -51,19 +64,13 @@ pub fn uramsheg_detect<'a>(
         ≡ detect_face set.now (thresholds_of peak sigma ratio low high) rows cols octave
         l0.now l1.now l2.now l3.now out.old }
 {
-    let th = Thresholds {
-        peak: peak,
-        sigma: sigma,
-        ratio: ratio,
-        low: low,
-        high: high,
-    };
+    let th = thresholds_of(peak, sigma, ratio, low, high);
     face_detect::detect(set, th, rows, cols, octave, l0, l1, l2, l3, out, value)
 }
 
 // Whether the record holds a good set: 0, or 4 where it is refused.
 pub fn uramsheg_set_check(set: &[u8]) -> u32
-    ensures { result ≡ check_face (read_set_of set.now).answer }
+    ensures { result ≡ check_face (read_set_of set.now) }
 {
     face::set_check(set)
 }

@@ -3,7 +3,7 @@ ghost use Rattle.std.specs.Prelude.{◌≡◌};
 ghost use Rattle.face.specs.Face.{thresholds_of};
 ghost use Rattle.face_scene.specs.Face.{scene_left, scene_face};
 
-use tables::Thresholds;
+use crate::thresholds_of;
 
 // Lists the spots of a scene in the buffer out, under the set in the record set; each tile is copied into the slices t0 to t3. Answers 0, with the count in
 // value, 6 with the whole tiles written in value, or the refusal's number, with the value that goes with it in value.
@@ -32,13 +32,7 @@ pub fn uramsheg_scene<'a>(
         ≡ scene_face set.now (thresholds_of peak sigma ratio low high) rows cols octave l0.now l1.now l2.now l3.now
         t0.old t1.old t2.old t3.old out.old }
 {
-    let thresholds = Thresholds {
-        peak: peak,
-        sigma: sigma,
-        ratio: ratio,
-        low: low,
-        high: high,
-    };
+    let thresholds = thresholds_of(peak, sigma, ratio, low, high);
     face_scene::scene(
         set, thresholds, rows, cols, octave, l0, l1, l2, l3, t0, t1, t2, t3, out, value,
     )

@@ -1,5 +1,6 @@
 -- From its claim until it gives the slot back, a desk's slot is its own: what its calls there are answered, runs and refusals too, is what they would be answered
 -- if nobody else called anything. Assumes nothing.
+use Rattle.std.specs.Prelude.{Result, Ok, Err, ⊤}
 use Prim.Native.Nat.{ℕ, ◌<◌}
 use native.Mathlib.Omega.{arith}
 use mathlib.Core.Bool.{Bool, true, false, cond, ◌&&◌, false≢true}
@@ -9,13 +10,11 @@ use lib.Dec.{eqb}
 use lib.ListN.{length}
 use borrow.Author.Tests.{eqb-true, eqb-false, eq-eqb, ne_eqb, lt-ltb}
 use Rattle.float.proofs.Bools.{both}
-use Rattle.tables.specs.declared.Checked.{Checked}
-use Rattle.tables.specs.declared.Checked.TheVariants.{Fine, Bad}
 use Rattle.tables.specs.declared.Refusal.TheVariants.{NotYours}
+use Rattle.tables.specs.declared.Refusal.{Refusal}
 use Rattle.tables.specs.Refusal.{first_of}
 use Rattle.desks.specs.Table.{table_width, Slot, slot_of, runnable}
 use Rattle.desks.specs.Desks.{Act, Claim, Write, Release, usable, needed, call_checks, call_of}
-use Rattle.desks.specs.declared.Told.TheVariants.{Done}
 use Rattle.desks.proofs.CallLaws.{desk_small, not-owned, done-fine, usable_parts}
 use Rattle.desk_run.proofs.RunLaws.{run_detects}
 use Rattle.apart.specs.Slots.{slot_done, slot_by, Owned}
@@ -55,19 +54,19 @@ module _ (desk i : ℕ) where
   unfolding slot_then gives_back slot_by slot_done
   owner-stays (Acts Claim j) s o n = go (first_of (call_checks Claim desk true s))
     where
-      go : (w : Checked) → (slot_by w s (slot_done Claim desk s)).owner ≡ desk
-      go (Bad r) = o
-      go Fine = refl
+      go : (w : Result ⊤ Refusal) → (slot_by w s (slot_done Claim desk s)).owner ≡ desk
+      go (Err r) = o
+      go (Ok _) = refl
   owner-stays (Acts (Write new) j) s o n = go (first_of (call_checks (Write new) desk true s))
     where
-      go : (w : Checked) → (slot_by w s (slot_done (Write new) desk s)).owner ≡ desk
-      go (Bad r) = o
-      go Fine = o
+      go : (w : Result ⊤ Refusal) → (slot_by w s (slot_done (Write new) desk s)).owner ≡ desk
+      go (Err r) = o
+      go (Ok _) = o
   owner-stays (Acts Release j) s o n = absurd (false≢true (sym n))
   owner-stays (Runs r j) s o n = o
 
   -- another desk's call at the slot is refused with 11
-  pub foreign : (act : Act) (d : ℕ) (u : Bool) (s : Slot) → s.owner ≡ desk → 0 < desk → (desk ≡ d → ⊥) → first_of (call_checks act d u s) ≡ Bad NotYours
+  pub foreign : (act : Act) (d : ℕ) (u : Bool) (s : Slot) → s.owner ≡ desk → 0 < desk → (desk ≡ d → ⊥) → first_of (call_checks act d u s) ≡ Err NotYours
   unfolding needed
   foreign act d u s o some other = not-owned d u s act (go u (differs act))
     where
@@ -158,7 +157,7 @@ module _ (desk i : ℕ) where
   -- ---- from the claim on
 
   -- after a claim that is done the slot is the desk's
-  pub claimed_owned : (t : List ℕ) → (call_of Claim t desk i).answer ≡ Done → Owned desk i (call_of Claim t desk i).table
+  pub claimed_owned : (t : List ℕ) → (call_of Claim t desk i).answer ≡ Ok tt → Owned desk i (call_of Claim t desk i).table
   unfolding slot_by slot_done
   claimed_owned t done =
       let fine = done-fine Claim t desk i done in
@@ -183,7 +182,7 @@ module _ (desk i : ℕ) where
 
   -- Two whole histories from one table: the same until a claim of the desk's that is done, then differing only in what others call. The desk's runs from the
   -- slot, its writes there, and whatever else it calls there until it gives the slot back are answered alike.
-  pub histories_agree : (before cs cs' : List Call) (t : List ℕ) → (call_of Claim (table_after before t) desk i).answer ≡ Done → only (of_desk desk) cs ≡ only (of_desk desk) cs'
+  pub histories_agree : (before cs cs' : List Call) (t : List ℕ) → (call_of Claim (table_after before t) desk i).answer ≡ Ok tt → only (of_desk desk) cs ≡ only (of_desk desk) cs'
       → replies_at desk i cs (call_of Claim (table_after before t) desk i).table ≡ replies_at desk i cs' (call_of Claim (table_after before t) desk i).table
   histories_agree before cs cs' t done same =
       let p = claimed_owned (table_after before t) done in

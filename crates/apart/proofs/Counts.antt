@@ -1,4 +1,5 @@
 -- A slot's count is what it was and the claims and writes of it that were done since. So it never wraps, and where it has not changed, the set was not written. Assumes nothing.
+use Rattle.std.specs.Prelude.{Result, Ok, Err, ⊤}
 use Prim.Native.Nat.{ℕ, ◌+◌, ◌≤◌}
 use native.Mathlib.Omega.{arith}
 use mathlib.Core.Bool.{Bool, true, false, cond}
@@ -6,9 +7,8 @@ use mathlib.Core.Path.{◌≡◌, refl, sym, ap, ◌∙◌}
 use mathlib.Core.List.{List, [], ◌∷◌}
 use lib.Dec.{eqb}
 use borrow.Author.Tests.{eqb-true, eqb-false}
-use Rattle.tables.specs.declared.Checked.{Checked}
-use Rattle.tables.specs.declared.Checked.TheVariants.{Fine, Bad}
 use Rattle.tables.specs.Refusal.{first_of}
+use Rattle.tables.specs.declared.Refusal.{Refusal}
 use Rattle.desks.specs.Table.{Slot, slot_of, At}
 use Rattle.desks.specs.Desks.{Act, Claim, Write, Release, usable, top, call_checks, call_of}
 use Rattle.desks.proofs.CallLaws.{claim_fine, write_fine}
@@ -20,29 +20,29 @@ use Rattle.apart.proofs.Alone.{length-after}
 
 -- ---- by the slot alone
 
-count_by : (w : Checked) (act : Act) (desk : ℕ) (s : Slot) → (slot_by w s (slot_done act desk s)).count ≡ s.count + if_done (told_by w) (adds act)
+count_by : (w : Result ⊤ Refusal) (act : Act) (desk : ℕ) (s : Slot) → (slot_by w s (slot_done act desk s)).count ≡ s.count + if_done (told_by w) (adds act)
 unfolding slot_by slot_done told_by if_done adds
-count_by (Bad r) act desk s = omega arith
-count_by Fine Claim desk s = omega arith
-count_by Fine (Write new) desk s = omega arith
-count_by Fine Release desk s = omega arith
+count_by (Err r) act desk s = omega arith
+count_by (Ok _) Claim desk s = omega arith
+count_by (Ok _) (Write new) desk s = omega arith
+count_by (Ok _) Release desk s = omega arith
 
-set-by : (w : Checked) (act : Act) (desk : ℕ) (s : Slot) → if_done (told_by w) (adds act) ≡ 0 → (slot_by w s (slot_done act desk s)).bytes ≡ s.bytes
+set-by : (w : Result ⊤ Refusal) (act : Act) (desk : ℕ) (s : Slot) → if_done (told_by w) (adds act) ≡ 0 → (slot_by w s (slot_done act desk s)).bytes ≡ s.bytes
 unfolding slot_by slot_done told_by if_done adds
-set-by (Bad r) act desk s e = refl
-set-by Fine Claim desk s e = let z : ⊥ = omega (arith, e) in absurd z
-set-by Fine (Write new) desk s e = let z : ⊥ = omega (arith, e) in absurd z
-set-by Fine Release desk s e = refl
+set-by (Err r) act desk s e = refl
+set-by (Ok _) Claim desk s e = let z : ⊥ = omega (arith, e) in absurd z
+set-by (Ok _) (Write new) desk s e = let z : ⊥ = omega (arith, e) in absurd z
+set-by (Ok _) Release desk s e = refl
 
 most-by : (act : Act) (desk : ℕ) (u : Bool) (s : Slot) → s.count ≤ top → (slot_after act desk u s).count ≤ top
 unfolding slot_by slot_done
 most-by act desk u s h = go act (first_of (call_checks act desk u s)) refl
   where
-    go : (a : Act) (w : Checked) → first_of (call_checks a desk u s) ≡ w → (slot_by w s (slot_done a desk s)).count ≤ top
-    go a (Bad r) e = h
-    go Claim Fine e = let room = (claim_fine desk u s e).1 in omega arith
-    go (Write new) Fine e = let room = (write_fine desk u s new e).1 in omega arith
-    go Release Fine e = h
+    go : (a : Act) (w : Result ⊤ Refusal) → first_of (call_checks a desk u s) ≡ w → (slot_by w s (slot_done a desk s)).count ≤ top
+    go a (Err r) e = h
+    go Claim (Ok _) e = let room = (claim_fine desk u s e).1 in omega arith
+    go (Write new) (Ok _) e = let room = (write_fine desk u s new e).1 in omega arith
+    go Release (Ok _) e = h
 
 -- ---- one call
 

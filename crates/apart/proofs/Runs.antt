@@ -1,4 +1,5 @@
 -- Runs: which refusal is answered, by its place; and demands 2 and 3 for the set found at the call. Assumes nothing.
+use Rattle.std.specs.Prelude.{Ok, Err}
 use Prim.Native.Nat.{ℕ}
 use mathlib.Core.Bool.{Bool, true, false}
 use mathlib.Core.Path.{◌≡◌, refl, sym, ap, ◌∙◌}
@@ -8,13 +9,11 @@ use lib.Ieee.{Float}
 use Rattle.tables.specs.declared.Set.{Set}
 use Rattle.tables.specs.declared.Thresholds.{Thresholds}
 use Rattle.tables.specs.declared.Refusal.{Refusal}
-use Rattle.tables.specs.declared.Checked.TheVariants.{Fine}
 use Rattle.tables.specs.Refusal.{Check, First, said_at}
 use Rattle.tables.proofs.RefusalLaws as laws
 use Rattle.samples.specs.Level.{Maps, maps_of}
 use Rattle.detect.specs.Due.{due}
 use Rattle.detect.specs.Detect.{Outcome, detected, detect_of}
-use Rattle.detect.specs.declared.Answer.TheVariants.{Found, Refused}
 use Rattle.detect.proofs.RefusalsLaws.{answer-refused, buffer-kept, answer-found}
 use Rattle.demands.specs.TwoMaps.{spared, Lossy, Struck, lists}
 use Rattle.demands.proofs.Answers.{answered, two_answers}
@@ -39,32 +38,32 @@ module _ (t : List ℕ) (i : ℕ) (th : Thresholds) (rows cols octave : ℕ) (l0
   after = run_of t i th rows cols octave l0 l1 l2 l3 out
 
   -- a refusal that is answered is that of the first check that holds: 11, then detection's own
-  pub run_refused-first : (r : Refusal) → after.answer ≡ Refused r → First checks r
+  pub run_refused-first : (r : Refusal) → after.answer ≡ Err r → First checks r
   unfolding run_of
   run_refused-first r e = laws.first-refused checks r (answer-refused _ maps out r e)
 
   -- and the first that holds is answered
-  pub run_first_answered : (r : Refusal) → First checks r → after.answer ≡ Refused r
+  pub run_first_answered : (r : Refusal) → First checks r → after.answer ≡ Err r
   unfolding run_of detected
   run_first_answered r f = rw (laws.refused-first checks r f)
 
   -- a refusal writes nothing
-  pub run_refused_keeps : (r : Refusal) → after.answer ≡ Refused r → after.buffer ≡ out
+  pub run_refused_keeps : (r : Refusal) → after.answer ≡ Err r → after.buffer ≡ out
   unfolding run_of
   run_refused_keeps r e = buffer-kept _ maps out r e
 
   -- where a run answers Found, no check holds
-  pub run_found-none : (n : ℕ) → after.answer ≡ Found n → (k : ℕ) → said_at checks k ≡ Fine
+  pub run_found-none : (n : ℕ) → after.answer ≡ Ok n → (k : ℕ) → said_at checks k ≡ Ok tt
   unfolding run_of
   run_found-none n e = laws.first_fine checks (answer-found _ maps out n e)
 
   -- demand 2: what a run that is not refused lists is the whole list that is due under the set found at the call
-  pub run_lists : (n : ℕ) → after.answer ≡ Found n → after ≡ lists (due maps) out
+  pub run_lists : (n : ℕ) → after.answer ≡ Ok n → after ≡ lists (due maps) out
   unfolding run_of
   run_lists n e = answered _ maps out n e
 
   -- it is then detection itself with that set
-  pub run_is_detection : (n : ℕ) → after.answer ≡ Found n → after ≡ detect_of found th rows cols octave l0 l1 l2 l3 out
+  pub run_is_detection : (n : ℕ) → after.answer ≡ Ok n → after ≡ detect_of found th rows cols octave l0 l1 l2 l3 out
   run_is_detection n e = go (runnable t i) refl
     where
       go : (b : Bool) → runnable t i ≡ b → after ≡ detect_of found th rows cols octave l0 l1 l2 l3 out
@@ -78,8 +77,8 @@ pub two_runs : (lost : ℕ → ℕ → Bool) (t t' : List ℕ) (i i' : ℕ) (s :
     → Lossy lost (maps_of a0 a1 a2 a3 (record { rows = rows; cols = cols; octave = octave }) s th)
     (maps_of b0 b1 b2 b3 (record { rows = rows; cols = cols; octave = octave }) s th)
     → (out out' : List ℕ) (n n' : ℕ)
-    → (run_of t i th rows cols octave a0 a1 a2 a3 out).answer ≡ Found n
-    → (run_of t' i' th rows cols octave b0 b1 b2 b3 out').answer ≡ Found n'
+    → (run_of t i th rows cols octave a0 a1 a2 a3 out).answer ≡ Ok n
+    → (run_of t' i' th rows cols octave b0 b1 b2 b3 out').answer ≡ Ok n'
     → Struck (spared lost cols) (due (maps_of a0 a1 a2 a3 (record { rows = rows; cols = cols; octave = octave }) s th)) out out'
     (run_of t i th rows cols octave a0 a1 a2 a3 out) (run_of t' i' th rows cols octave b0 b1 b2 b3 out')
 two_runs lost t t' i i' s set set' th rows cols octave a0 a1 a2 a3 b0 b1 b2 b3 h out out' n n' first second =

@@ -1,4 +1,5 @@
 -- What a call makes of its own slot is told by that slot alone, and every other slot is kept. Assumes nothing.
+use Rattle.std.specs.Prelude.{Result, Ok, Err, ⊤}
 use Prim.Native.Nat.{ℕ, suc, ◌<◌}
 use native.Mathlib.Omega.{arith}
 use mathlib.Core.Bool.{Bool, true, false}
@@ -13,9 +14,8 @@ use Rattle.words.specs.Words.{word_bytes, word_from}
 use Rattle.words.proofs.Stores.{part_kept}
 use Rattle.words.proofs.Parts.{part_own}
 use Rattle.words.proofs.WordsLaws.{length-word_bytes, word_kept, word-own}
-use Rattle.tables.specs.declared.Checked.{Checked}
-use Rattle.tables.specs.declared.Checked.TheVariants.{Fine, Bad}
 use Rattle.tables.specs.Refusal.{first_of}
+use Rattle.tables.specs.declared.Refusal.{Refusal}
 use Rattle.tables.proofs.SetLaws.{good-long}
 use Rattle.desks.specs.Table.{table_width, set_place, owner_place, count_place, slot_of, At}
 use Rattle.desks.specs.Desks.{Act, Claim, Write, Release, usable, top, call_checks, zeros, stored, finished, call_of}
@@ -36,18 +36,18 @@ pub length-kept : (act : Act) (desk i : ℕ) (t : List ℕ) → length (call_of 
 unfolding call_of finished
 length-kept act desk i t = go (first_of (call_checks act desk (usable desk i t) (slot_of t i)))
   where
-    go : (w : Checked) → length (finished w t (stored act desk i t)).table ≡ length t
-    go (Bad r) = refl
-    go Fine = length-stored act desk i t
+    go : (w : Result ⊤ Refusal) → length (finished w t (stored act desk i t)).table ≡ length t
+    go (Err r) = refl
+    go (Ok _) = length-stored act desk i t
 
 -- the answer is told by the checks
 pub answer-is : (act : Act) (desk i : ℕ) (t : List ℕ) → (call_of act t desk i).answer ≡ told_by (first_of (call_checks act desk (usable desk i t) (slot_of t i)))
 unfolding call_of finished told_by
 answer-is act desk i t = go (first_of (call_checks act desk (usable desk i t) (slot_of t i)))
   where
-    go : (w : Checked) → (finished w t (stored act desk i t)).answer ≡ told_by w
-    go (Bad r) = refl
-    go Fine = refl
+    go : (w : Result ⊤ Refusal) → (finished w t (stored act desk i t)).answer ≡ told_by w
+    go (Err r) = refl
+    go (Ok _) = refl
 
 -- ---- the slot of a call
 
@@ -98,7 +98,7 @@ module _ (t : List ℕ) (i : ℕ) (p : At t i) where
         word_kept (0 ∷ []) t (owner_place i) (count_place i) (inr (omega arith)),
       )
 
-  stored-own : (act : Act) (desk : ℕ) (u : Bool) → first_of (call_checks act desk u (slot_of t i)) ≡ Fine → slot_of (stored act desk i t) i ≡ slot_done act desk (slot_of t i)
+  stored-own : (act : Act) (desk : ℕ) (u : Bool) → first_of (call_checks act desk u (slot_of t i)) ≡ Ok tt → slot_of (stored act desk i t) i ≡ slot_done act desk (slot_of t i)
   stored-own Claim desk u e = claim_own desk (claim_fine desk u (slot_of t i) e).1
   stored-own (Write new) desk u e = let had = write_fine desk u (slot_of t i) new e in write_own new desk (good-long new had.2) had.1
   stored-own Release desk u e = release_own desk
@@ -108,20 +108,20 @@ module _ (t : List ℕ) (i : ℕ) (p : At t i) where
   unfolding call_of finished slot_by
   own-slot act desk = go (first_of (call_checks act desk (usable desk i t) (slot_of t i))) refl
     where
-      go : (w : Checked) → first_of (call_checks act desk (usable desk i t) (slot_of t i)) ≡ w → slot_of (finished w t (stored act desk i t)).table i ≡ slot_by w (slot_of t i) (slot_done act desk (slot_of t i))
-      go (Bad r) e = refl
-      go Fine e = stored-own act desk (usable desk i t) e
+      go : (w : Result ⊤ Refusal) → first_of (call_checks act desk (usable desk i t) (slot_of t i)) ≡ w → slot_of (finished w t (stored act desk i t)).table i ≡ slot_by w (slot_of t i) (slot_done act desk (slot_of t i))
+      go (Err r) e = refl
+      go (Ok _) e = stored-own act desk (usable desk i t) e
 
 -- ---- every other slot
 
 -- a call that passes its checks names one of the eight slots
-pub fine-usable : (act : Act) (desk j : ℕ) (t : List ℕ) → first_of (call_checks act desk (usable desk j t) (slot_of t j)) ≡ Fine → usable desk j t ≡ true
+pub fine-usable : (act : Act) (desk j : ℕ) (t : List ℕ) → first_of (call_checks act desk (usable desk j t) (slot_of t j)) ≡ Ok tt → usable desk j t ≡ true
 fine-usable Claim desk j t e = (claim_fine desk (usable desk j t) (slot_of t j) e).0.named
 fine-usable (Write new) desk j t e = (write_fine desk (usable desk j t) (slot_of t j) new e).0.named
 fine-usable Release desk j t e = (release_fine desk (usable desk j t) (slot_of t j) e).named
 
 module _ (t : List ℕ) (i j : ℕ) (hi : i < 8) (hj : j < 8) (other : (i < j) ⊎ (j < i)) where
-  stored_other : (act : Act) (desk : ℕ) (u : Bool) → first_of (call_checks act desk u (slot_of t j)) ≡ Fine → slot_of (stored act desk j t) i ≡ slot_of t i
+  stored_other : (act : Act) (desk : ℕ) (u : Bool) → first_of (call_checks act desk u (slot_of t j)) ≡ Ok tt → slot_of (stored act desk j t) i ≡ slot_of t i
   unfolding stored
   stored_other Claim desk u e =
       let v : ℕ = suc (slot_of t j).count in
@@ -150,6 +150,6 @@ pub other_slot : (act : Act) (desk i j : ℕ) (t : List ℕ) → i < 8 → (i �
 unfolding call_of finished
 other_slot act desk i j t hi other = go (first_of (call_checks act desk (usable desk j t) (slot_of t j))) refl
   where
-    go : (w : Checked) → first_of (call_checks act desk (usable desk j t) (slot_of t j)) ≡ w → slot_of (finished w t (stored act desk j t)).table i ≡ slot_of t i
-    go (Bad r) e = refl
-    go Fine e = stored_other t i j hi (usable_parts desk j t (fine-usable act desk j t e)).0.inside (unequal i j other) act desk (usable desk j t) e
+    go : (w : Result ⊤ Refusal) → first_of (call_checks act desk (usable desk j t) (slot_of t j)) ≡ w → slot_of (finished w t (stored act desk j t)).table i ≡ slot_of t i
+    go (Err r) e = refl
+    go (Ok _) e = stored_other t i j hi (usable_parts desk j t (fine-usable act desk j t e)).0.inside (unequal i j other) act desk (usable desk j t) e

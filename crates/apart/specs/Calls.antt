@@ -1,11 +1,11 @@
 -- Histories: calls that desks make one after the other on one table. Definitions only.
-use Rattle.std.specs.Prelude.{ℕ, Bool, true, false, cond, ◌&&◌, List, [], ◌∷◌, eqb, Float}
+use Rattle.std.specs.Prelude.{ℕ, Bool, true, false, cond, ◌&&◌, List, [], ◌∷◌, eqb, Float, Result, ⊤}
 use Rattle.tables.specs.declared.Thresholds.{Thresholds}
+use Rattle.tables.specs.declared.Refusal.{Refusal}
 use Rattle.tables.specs.Refusal.{first_of}
 use Rattle.detect.specs.Detect as detection
 use Rattle.desks.specs.Table.{Slot, set_in}
 use Rattle.desks.specs.Desks.{Act, Claim, Write, Release, call_checks, call_of}
-use Rattle.desks.specs.declared.Told.{Told}
 use Rattle.desk_run.specs.Run.{run_of}
 use Rattle.apart.specs.Slots.{told_by, slot_after}
 
@@ -33,7 +33,7 @@ pub record Call : Type 0 where
 
 -- what a call is answered: a run's reply has its whole buffer too
 pub data Reply : Type 0 where
-  Said : Told → Reply
+  Said : Result ⊤ Refusal → Reply
   Ran : detection.Outcome → Reply
 
 -- the slot that a call names

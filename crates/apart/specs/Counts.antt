@@ -1,9 +1,8 @@
 -- How many claims and writes of a slot a history has that are done. Definitions only.
-use Rattle.std.specs.Prelude.{ℕ, ◌+◌, cond, List, [], ◌∷◌, eqb}
+use Rattle.std.specs.Prelude.{ℕ, ◌+◌, cond, List, [], ◌∷◌, eqb, Result, Ok, Err, ⊤}
 use Rattle.desks.specs.Desks.{Act, Claim, Write, Release, call_of}
-use Rattle.desks.specs.declared.Told.{Told}
-use Rattle.desks.specs.declared.Told.TheVariants.{Done, Refused}
 use Rattle.apart.specs.Calls.{What, Acts, Runs, Call, after}
+use Rattle.tables.specs.declared.Refusal.{Refusal}
 
 -- what a call that is done adds to the count: one for a claim and for a write
 unfoldable pub adds : Act → ℕ
@@ -12,9 +11,9 @@ adds (Write new) = 1
 adds Release = 0
 
 -- and one that is refused: nothing
-unfoldable pub if_done : Told → ℕ → ℕ
-if_done Done n = n
-if_done (Refused r) n = 0
+unfoldable pub if_done : Result ⊤ Refusal → ℕ → ℕ
+if_done (Ok _) n = n
+if_done (Err r) n = 0
 
 -- the claims and writes of the slot i that one call does: 1 or 0
 unfoldable pub write_of : ℕ → ℕ → What → List ℕ → ℕ

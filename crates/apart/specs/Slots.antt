@@ -1,17 +1,14 @@
 -- What a desk's call answers and makes of its slot, by the slot alone. Definitions only.
-use Rattle.std.specs.Prelude.{ℕ, suc, ◌<◌, Bool, true, List, ◌≡◌, length}
-use Rattle.tables.specs.declared.Checked.{Checked}
-use Rattle.tables.specs.declared.Checked.TheVariants.{Fine, Bad}
+use Rattle.std.specs.Prelude.{ℕ, suc, ◌<◌, Bool, true, List, ◌≡◌, length, Result, Ok, Err, ⊤}
 use Rattle.tables.specs.Refusal.{first_of}
+use Rattle.tables.specs.declared.Refusal.{Refusal}
 use Rattle.desks.specs.Table.{table_width, Slot, slot_of, a_desk}
 use Rattle.desks.specs.Desks.{Act, Claim, Write, Release, call_checks, zeros}
-use Rattle.desks.specs.declared.Told.{Told}
-use Rattle.desks.specs.declared.Told.TheVariants.{Done, Refused}
 
 -- what is answered, by the checks
-unfoldable pub told_by : Checked → Told
-told_by (Bad r) = Refused r
-told_by Fine = Done
+unfoldable pub told_by : Result ⊤ Refusal → Result ⊤ Refusal
+told_by (Err r) = Err r
+told_by (Ok _) = Ok tt
 
 -- what a call that is done makes of its slot
 unfoldable pub slot_done : Act → ℕ → Slot → Slot
@@ -20,9 +17,9 @@ slot_done (Write new) desk s = record { bytes = new; owner = s.owner; count = su
 slot_done Release desk s = record { bytes = s.bytes; owner = 0; count = s.count }
 
 -- a refusal leaves it
-unfoldable pub slot_by : Checked → Slot → Slot → Slot
-slot_by (Bad r) s new = s
-slot_by Fine s new = new
+unfoldable pub slot_by : Result ⊤ Refusal → Slot → Slot → Slot
+slot_by (Err r) s new = s
+slot_by (Ok _) s new = new
 
 -- what a call makes of its slot; u says whether table, desk and slot are usable
 abbrev pub slot_after : Act → ℕ → Bool → Slot → Slot

@@ -9,7 +9,7 @@ use kernels::Kernel;
 fn lower(a: usize, t: usize) -> usize
     ensures { result ≡ a - t }
 {
-    if t <= a { a - t } else { 0 }
+    a.saturating_sub(t)
 }
 
 // The place t behind a; the last where there is none.
@@ -18,14 +18,7 @@ fn upper(a: usize, t: usize, last: usize) -> usize
     requires t_bound { t ≤ 16 }
     ensures { result ≡ min (a + t) last }
 {
-    if a + t <= last { a + t } else { last }
-}
-
-// The smaller of two.
-fn smaller(a: usize, b: usize) -> usize
-    ensures { result ≡ min a b }
-{
-    if a <= b { a } else { b }
+    last.min(a + t)
 }
 
 // One or two taps more for one kernel; how many are then done.
@@ -75,6 +68,7 @@ fn rest(
     ensures { Holds line.new rows (λ r. across_at raw.now rows cols k r col) }
 {
     let mut s = t;
+    // Stays: `step` says how many taps a turn does, one or two; no range counts that.
     while s < k.radius {
         s = step(raw, rows, cols, col, k, s, line);
     }
@@ -129,8 +123,9 @@ fn shared(
 {
     lines::weigh(raw, col * rows, rows, j.taps[0], a, 16);
     lines::weigh(raw, col * rows, rows, k.taps[0], b, 16);
-    let least = smaller(j.radius, k.radius);
+    let least = j.radius.min(k.radius);
     let mut t: usize = 0;
+    // Stays: two taps a turn, and the number done is the answer; a range would hide both.
     while t + 2 <= least {
         step_both(raw, rows, cols, col, j, k, t, a, b);
         t += 2;

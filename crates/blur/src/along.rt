@@ -62,6 +62,7 @@ pub fn along(line: &[f32; 4128], rows: usize, k: Kernel, out: &mut [f32], at: us
 {
     lines::weigh(line, 16, rows, k.taps[0], out, at);
     let mut t: usize = 0;
+    // Stays: `step` says how many taps a turn does, one, two or four; no range counts that.
     while t < k.radius {
         t = step(line, rows, k, t, out, at);
     }

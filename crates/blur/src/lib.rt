@@ -70,9 +70,7 @@ pub fn two_levels(
     }
     let mut a: [f32; 4128] = [0.0; 4128];
     let mut b: [f32; 4128] = [0.0; 4128];
-    let mut c: usize = 0;
-    while c < cols {
+    for c in 0..cols {
         column(raw, rows, cols, c, j, k, &mut a, &mut b, x, y);
-        c += 1;
     }
 }

@@ -1,11 +1,12 @@
 -- A worked case, and one for each function that has them: arguments and answers by bit patterns. Definitions only.
-use Rattle.std.specs.Prelude.{ℕ, suc, List, [], ◌∷◌, Bool, Float}
+use Rattle.std.specs.Prelude.{ℕ, suc, List, [], ◌∷◌, Bool, Float, Result, Ok, Err}
 use Rattle.std.specs.Float.{binary32}
 use Rattle.std.specs.Float.Ieee.{of_bits, to_bits}
 use Rattle.float.specs.Sqrt.{sqrt_of}
 use Rattle.logexp.specs.Log.{log2_of}
 use Rattle.whole.specs.Nearest.{nearest_of}
 use Rattle.tables.specs.Refusal.{number, value}
+use Rattle.tables.specs.declared.Refusal.{Refusal}
 use Rattle.tables.specs.SetT.{values}
 use Rattle.tables.specs.declared.Set.{Set}
 use Rattle.fit.specs.Cubic.{horner_of}
@@ -14,12 +15,9 @@ use Rattle.fit.specs.Envelope.{envelope_of}
 use Rattle.fit.specs.declared.Envelope.{Envelope}
 use Rattle.profile.specs.Profile.{statistic_of}
 use Rattle.profile.specs.Causes.{place_of}
-use Rattle.profile.specs.declared.Statistic.{Statistic}
-use Rattle.profile.specs.declared.Statistic.TheVariants.{Value, Absent}
 use Rattle.size.specs.Correct.{correct_of}
-use Rattle.size.specs.declared.Correction.{Correction}
-use Rattle.size.specs.declared.Correction.TheVariants.{Size, Refused}
 use Rattle.pyramid.specs.Pyramid.{octave_count_of}
+use Rattle.profile.specs.declared.Absence.{Absence}
 
 -- a case in bit patterns, bytes or numbers: what the definitions give, and what document 01 says
 pub record Case : Type 0 where
@@ -59,18 +57,18 @@ unfoldable pub envelope_case : List Float → List Float → List ℕ → List �
 envelope_case t g l due = record { given = of_envelope (envelope_of t g (values l)); due = due }
 
 -- 0 and the pattern of a statistic; the number of its cause where there is none
-unfoldable pub of_statistic : Statistic → List ℕ
-of_statistic (Value x) = 0 ∷ to_bits binary32 x ∷ []
-of_statistic (Absent why) = suc (place_of why) ∷ []
+unfoldable pub of_statistic : Result Float Absence → List ℕ
+of_statistic (Ok x) = 0 ∷ to_bits binary32 x ∷ []
+of_statistic (Err why) = suc (place_of why) ∷ []
 
 -- the profile statistic of four samples under the sigmas
 unfoldable pub statistic_case : List Float → List ℕ → List ℕ → Case
 statistic_case sigmas l due = record { given = of_statistic (statistic_of sigmas (values l)); due = due }
 
 -- 0 and the pattern of a size; the number of a refusal and the value beside it
-unfoldable pub of_correction : Correction → List ℕ
-of_correction (Size sigma) = 0 ∷ to_bits binary32 sigma ∷ []
-of_correction (Refused refusal) = number refusal ∷ value refusal ∷ []
+unfoldable pub of_correction : Result Float Refusal → List ℕ
+of_correction (Ok sigma) = 0 ∷ to_bits binary32 sigma ∷ []
+of_correction (Err refusal) = number refusal ∷ value refusal ∷ []
 
 -- a spot with these samples and this sigma, corrected under a set
 unfoldable pub correction_case : Set → List ℕ → ℕ → Bool → List ℕ → Case

@@ -1,14 +1,13 @@
 -- Cases of the feed: map M given by columns, and what is refused. Definitions only.
-use Rattle.std.specs.Prelude.{ℕ, zero, suc, ◌*◌, List, [], ◌∷◌, ◌++◌, replicate, take, drop, Float}
+use Rattle.std.specs.Prelude.{ℕ, zero, suc, ◌*◌, List, [], ◌∷◌, ◌++◌, replicate, take, drop, Float, Result, Ok, Err}
 use Rattle.float.specs.Num.{f0}
 use Rattle.tables.specs.declared.Set.{Set}
+use Rattle.tables.specs.declared.Refusal.{Refusal}
 use Rattle.tables.specs.declared.Thresholds.{Thresholds}
 use Rattle.tables.specs.Refusal.{number}
 use Rattle.tables.specs.SetT.{set_t}
 use Rattle.samples.specs.Four.{Four, four_of}
 use Rattle.ring.specs.declared.State.{State}
-use Rattle.feed.specs.declared.Answer.{Answer}
-use Rattle.feed.specs.declared.Answer.TheVariants.{Taken, Refused}
 use Rattle.feed.specs.Feed.{start_of, opened, column_of}
 use Rattle.fed.specs.Run.{Call, bytes_after, state_after}
 use Rattle.cases.specs.Case.{Case}
@@ -16,7 +15,7 @@ use Rattle.cases.specs.MapM.{zeros, put, level_m, thresholds_m, of_checked}
 
 -- what start's checks say of a map of these sides in this octave, with these thresholds and this set, and with a ring of which each slice has n floats
 unfoldable pub start_case : ℕ → ℕ → ℕ → Thresholds → Set → ℕ → List ℕ → Case
-start_case rows cols octave th s n due = record { given = of_checked (start_of s th rows cols octave n n n n).answer; due = due }
+start_case rows cols octave th s n due = record { given = of_checked (start_of s th rows cols octave n n n n); due = due }
 
 -- column c of a level of 9 rows
 unfoldable pub column_m : List Float → ℕ → List Float
@@ -44,9 +43,9 @@ unfoldable pub fed_case : ℕ → ℕ → List ℕ → Case
 fed_case room n due = record { given = bytes_after state_m (ring_of 45) (calls_m room n) ++ ((state_after state_m (ring_of 45) (calls_m room n)).position ∷ []); due = due }
 
 -- a count, or a refusal's number behind a 0
-unfoldable pub of_answer : Answer → List ℕ
-of_answer (Taken n) = n ∷ []
-of_answer (Refused r) = 0 ∷ number r ∷ []
+unfoldable pub of_answer : Result ℕ Refusal → List ℕ
+of_answer (Ok n) = n ∷ []
+of_answer (Err r) = 0 ∷ number r ∷ []
 
 -- what a column is answered that is so many floats long, of a map of 9 rows by cols at this position, with a ring of which each slice has n floats, and no output
 unfoldable pub column_case : ℕ → ℕ → ℕ → ℕ → List ℕ → Case

@@ -1,12 +1,11 @@
 -- Document 01's map M, cases of the list that is due for it, and of its refusal. Definitions only.
-use Rattle.std.specs.Prelude.{ℕ, ◌+◌, ◌*◌, List, [], ◌∷◌, ◌++◌, replicate, set, Float}
+use Rattle.std.specs.Prelude.{ℕ, ◌+◌, ◌*◌, List, [], ◌∷◌, ◌++◌, replicate, set, Float, Result, Ok, Err}
 use Rattle.std.specs.Float.{binary32}
 use Rattle.std.specs.Float.Ieee.{of_bits}
 use Rattle.float.specs.Num.{f0}
 use Rattle.tables.specs.declared.Set.{Set}
+use Rattle.tables.specs.declared.Refusal.{Refusal}
 use Rattle.tables.specs.declared.Thresholds.{Thresholds}
-use Rattle.tables.specs.declared.Checked.{Checked}
-use Rattle.tables.specs.declared.Checked.TheVariants.{Fine, Bad}
 use Rattle.tables.specs.Refusal.{number, first_of}
 use Rattle.tables.specs.SetT.{set_t}
 use Rattle.checks.specs.Checks.{detect_checks}
@@ -75,9 +74,9 @@ unfoldable pub sized_case : List ℕ → List ℕ → Case
 sized_case spot bytes = record { given = sized_bytes set_t (record_at spot 0); due = bytes }
 
 -- the number of a refusal; 0 where nothing is refused
-unfoldable pub of_checked : Checked → List ℕ
-of_checked Fine = 0 ∷ []
-of_checked (Bad r) = number r ∷ []
+unfoldable pub of_checked : {A : Type 0} → Result A Refusal → List ℕ
+of_checked (Ok _) = 0 ∷ []
+of_checked (Err r) = number r ∷ []
 
 -- what detection's checks say of map M in this octave, with these thresholds and this set
 unfoldable pub checks_case : ℕ → Thresholds → Set → List ℕ → Case

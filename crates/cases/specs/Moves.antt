@@ -1,10 +1,9 @@
 -- Cases of displacements and of old lists. Definitions only.
-use Rattle.std.specs.Prelude.{ℕ, List, [], ◌∷◌, ◌++◌, Bool, true, false, cond, replicate, take}
+use Rattle.std.specs.Prelude.{ℕ, List, [], ◌∷◌, ◌++◌, Bool, true, false, cond, replicate, take, Result, Ok, Err, ⊤}
 use Rattle.std.specs.Float.{binary32}
 use Rattle.std.specs.Float.Ieee.{of_bits, to_bits}
 use Rattle.tables.specs.declared.Set.{Set}
-use Rattle.tables.specs.declared.Checked.{Checked}
-use Rattle.tables.specs.declared.Checked.TheVariants.{Fine, Bad}
+use Rattle.tables.specs.declared.Refusal.{Refusal}
 use Rattle.tables.specs.Refusal.{number, value, first_of}
 use Rattle.tables.specs.Set.{blank}
 use Rattle.tables.specs.SetT.{set_t}
@@ -29,9 +28,9 @@ unfoldable pub read_case : ℕ → ℕ → ℕ → Case
 read_case dx dy due = record { given = cond (readable 9 10 (record_at (moved_m dx dy) 0)) 1 0 ∷ []; due = due ∷ [] }
 
 -- a refusal's number and value; 0 where nothing is refused
-unfoldable pub values_of : Checked → List ℕ
-values_of Fine = 0 ∷ []
-values_of (Bad r) = number r ∷ value r ∷ []
+unfoldable pub values_of : Result ⊤ Refusal → List ℕ
+values_of (Ok _) = 0 ∷ []
+values_of (Err r) = number r ∷ value r ∷ []
 
 -- what the join's checks say of a list of 9 by 10 pixels, old or not
 unfoldable pub join_case : Bool → ℕ → Set → List ℕ → ℕ → List ℕ → Case

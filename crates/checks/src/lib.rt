@@ -5,7 +5,7 @@ ghost use Rattle.std.specs.Prelude.{◌≡◌};
 ghost use Rattle.tables.specs.Refusal.{first_of, sides_check, octave_check};
 ghost use Rattle.checks.specs.Checks.{levels_check, detect_checks};
 
-use tables::{Checked, Refusal, Set, Thresholds};
+use tables::{Refusal, Set, Thresholds};
 
 // Whether a side is too long.
 pub fn sides_off(rows: usize, cols: usize) -> bool
@@ -39,26 +39,26 @@ pub fn checked(
     octave: usize,
     thresholds: Thresholds,
     set: Set,
-) -> Checked
+) -> Result<(), Refusal>
     ensures { result ≡ first_of (detect_checks n0 n1 n2 n3 rows cols octave thresholds set) }
 {
     let high = octave_off(octave);
     let lost = tables::has_nan(thresholds);
     let good = tables::is_good(set);
     if sides_off(rows, cols) {
-        return Checked::Bad(Refusal::Size);
+        return Err(Refusal::Size);
     }
     if levels_off(n0, n1, n2, n3, rows * cols) {
-        return Checked::Bad(Refusal::Level);
+        return Err(Refusal::Level);
     }
     if high {
-        return Checked::Bad(Refusal::Octave);
+        return Err(Refusal::Octave);
     }
     if lost {
-        return Checked::Bad(Refusal::Thresholds);
+        return Err(Refusal::Thresholds);
     }
     if !good {
-        return Checked::Bad(Refusal::BadSet);
+        return Err(Refusal::BadSet);
     }
-    Checked::Fine
+    Ok(())
 }

@@ -1,4 +1,5 @@
 -- Told the root, the line's point is the stationary point. Assumes nothing.
+use Rattle.std.specs.Prelude.{Some}
 use Prim.Native.Nat.{ℕ, ◌+◌, ◌*◌, ◌<◌}
 use native.Mathlib.Omega.{arith}
 use mathlib.Core.Path.{◌≡◌, refl, sym, ap, ◌∙◌}
@@ -16,7 +17,6 @@ use Rattle.float.proofs.One.{one_times, minus_one_times}
 use Rattle.float.proofs.Denied.{lt_self}
 use Rattle.fit.specs.Cubic.{◌at◌, horner_of, discriminant_of}
 use Rattle.fit.specs.Band.{sign_of, stationary_of}
-use Rattle.fit.specs.declared.Stationary.TheVariants.{At}
 use Rattle.fit.proofs.Agree.{signs}
 use Rattle.columns.specs.Coef.{under_root}
 use Rattle.columns.specs.Known.{Known, found, absent, unknown}
@@ -142,10 +142,10 @@ module _ (k : List Float) (is_max : Bool) (held : T (fits binary32 (k at 1))) (r
 
 -- ---- a point that is a number is the stationary point, whatever the root
 pub told-point : (k : List Float) (is_max : Bool) (root : Float) → T (fits binary32 (k at 1)) → Known root (under_root k) → is_nan (point_of (sign_of is_max) k root) ≡ false →
-    (stationary_of k is_max ≡ At (point_of (sign_of is_max) k root)) × (height_of (sign_of is_max) k root ≡ sign_of is_max ⊗ horner_of k (point_of (sign_of is_max) k root))
+    (stationary_of k is_max ≡ Some (point_of (sign_of is_max) k root)) × (height_of (sign_of is_max) k root ≡ sign_of is_max ⊗ horner_of k (point_of (sign_of is_max) k root))
 told-point k is_max root held known number = by-told (told_or known)
   where
-    by-told : Told k is_max (point_of (sign_of is_max) k root) (height_of (sign_of is_max) k root) → (stationary_of k is_max ≡ At (point_of (sign_of is_max) k root)) × (height_of (sign_of is_max) k root ≡ sign_of is_max ⊗ horner_of k (point_of (sign_of is_max) k root))
+    by-told : Told k is_max (point_of (sign_of is_max) k root) (height_of (sign_of is_max) k root) → (stationary_of k is_max ≡ Some (point_of (sign_of is_max) k root)) × (height_of (sign_of is_max) k root ≡ sign_of is_max ⊗ horner_of k (point_of (sign_of is_max) k root))
     by-told (point e h) = (e, h)
     by-told (nowhere e z) = absurd (true≢false (sym nan_is_nan ∙ ap is_nan (sym z) ∙ number))
 

@@ -1,12 +1,11 @@
 -- The stationary point of a polarity and its value, told the root. Definitions only.
-use Rattle.std.specs.Prelude.{ℕ, ◌+◌, ◌≡◌, Bool, cond, not, ◌&&◌, ◌||◌, List, [], ◌∷◌, Float}
+use Rattle.std.specs.Prelude.{ℕ, ◌+◌, ◌≡◌, Bool, cond, not, ◌&&◌, ◌||◌, List, [], ◌∷◌, Float, Some, None}
 use Rattle.std.specs.Float.{nan}
 use Rattle.std.specs.Float.Ieee.{lt, neg}
 use Rattle.float.specs.Small.{abs_of}
 use Rattle.float.specs.Num.{◌⊖◌, ◌⊗◌, ◌⊘◌, f0, f2, f6, f1e_6}
 use Rattle.fit.specs.Cubic.{◌at◌, horner_of}
 use Rattle.fit.specs.Band.{sign_of, stationary_of}
-use Rattle.fit.specs.declared.Stationary.TheVariants.{At, Nowhere}
 use Rattle.columns.specs.Line.{Written}
 
 -- the cubic's point with the root taken off with the sign, or the quadratic's
@@ -24,8 +23,8 @@ height_of sign k root = sign ⊗ horner_of k (turn_at sign k root)
 
 -- p is the stationary point of the polarity and v its value with the sign, or there is none and p is NaN
 pub data Told (k : List Float) (is_max : Bool) (p v : Float) : Type 0 where
-  point : stationary_of k is_max ≡ At p → v ≡ sign_of is_max ⊗ horner_of k p → Told k is_max p v
-  nowhere : stationary_of k is_max ≡ Nowhere → p ≡ nan → Told k is_max p v
+  point : stationary_of k is_max ≡ Some p → v ≡ sign_of is_max ⊗ horner_of k p → Told k is_max p v
+  nowhere : stationary_of k is_max ≡ None → p ≡ nan → Told k is_max p v
 
 -- the cubic at m of four rings
 abbrev pub cubic_in : List Float → List Float → List Float → List Float → ℕ → List Float

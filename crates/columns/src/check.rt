@@ -5,9 +5,10 @@ ghost use Rattle.fit.specs.Cubic.{◌at◌};
 ghost use Rattle.columns.specs.Line.{Written};
 ghost use Rattle.columns.specs.Known.{Known};
 
-use crate::coef::pick;
+use fit::pick;
 
 // The root of d by the guess g, where it is the root; 0 for a d that is not above 0; else -1.
+// Stays: `Known` says the three by numbers, which go into a line of floats.
 fn checked(d: f32, g: f32) -> f32
     ensures { Known result d }
 {
@@ -20,22 +21,17 @@ fn checked(d: f32, g: f32) -> f32
 pub fn guess_line(n: usize, q: &[f32; 256], g: &mut [f32; 256])
     requires { n ≤ 256 }
 {
-    let mut i: usize = 0;
-    while i < n {
+    for i in 0..n {
         g[i] = quick::guess_of(q[i]);
-        i += 1;
     }
 }
 
 // What is known of the roots of the first n.
 pub fn check_line(n: usize, q: &[f32; 256], g: &[f32; 256], r: &mut [f32; 256])
     requires n_bound { n ≤ 256 }
-    requires r_len { length r.old ≡ 256 }
     ensures { Written nan r.old r.new 0 n (λ i x. Known x (q.now at i)) }
 {
-    let mut i: usize = 0;
-    while i < n {
+    for i in 0..n {
         r[i] = checked(q[i], g[i]);
-        i += 1;
     }
 }

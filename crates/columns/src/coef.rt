@@ -6,13 +6,8 @@ ghost use Rattle.float.specs.Num.{f1e_6};
 ghost use Rattle.fit.specs.Cubic.{◌at◌, coeffs_of};
 ghost use Rattle.columns.specs.Coef.{under_root_of, Stored, Coefs, Sizes};
 
+use fit::pick;
 use fit::scale_fit::row;
-
-pub fn pick(test: bool, x: f32, y: f32) -> f32
-    ensures { result ≡ cond test x y }
-{
-    if test { x } else { y }
-}
 
 // x is more than 1e-6 in size.
 pub fn beyond(x: f32) -> bool
@@ -82,9 +77,7 @@ pub fn coef_line(
     ensures { Coefs t.now s0.now s1.now s2.now s3.now z n
         a.old b.old c.old d.old q.old a.new b.new c.new d.new q.new }
 {
-    let mut i: usize = 0;
-    while i < n {
+    for i in 0..n {
         coef_at(t, z, i, s0[i], s1[i], s2[i], s3[i], a, b, c, d, q);
-        i += 1;
     }
 }

@@ -20,6 +20,7 @@ fn is_owned_low(l0: f32, l1: f32, l2: f32, l3: f32) -> bool
 }
 
 // An inner sample is above both outer ones.
+// Stays: beside the one for below, since one function with a flag would write out both lines all the same.
 fn is_owned_high(l0: f32, l1: f32, l2: f32, l3: f32) -> bool
     ensures { result ≡ owned_by (l0 ∷ l1 ∷ l2 ∷ l3 ∷ []) true }
 {
@@ -70,12 +71,10 @@ pub fn gate_line(
     w: &mut [u32; 780],
 ) -> u32
     requires n_bound { (n ≤ 256) × (z + n ≤ 780) }
-    requires w_len { length w.old ≡ 780 }
     ensures { Words g s0.now s1.now s2.now s3.now r.now p.now v.now z n w.old w.new result }
 {
     let mut any: u32 = 0;
-    let mut i: usize = 0;
-    while i < n {
+    for i in 0..n {
         let x = word(
             g,
             s0[i],
@@ -90,7 +89,6 @@ pub fn gate_line(
         );
         w[z + i] = x;
         any = any | x;
-        i += 1;
     }
     any
 }

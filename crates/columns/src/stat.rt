@@ -2,9 +2,11 @@
 ghost use Rattle.std.specs.Prelude.{◌+◌, ◌≤◌, ◌≡◌, [], ◌∷◌, length};
 ghost use Rattle.columns.specs.Stat.{point_of, height_of, Points};
 
-use crate::coef::{beyond, pick};
+use crate::coef::beyond;
+use fit::pick;
 
-// A stationary point, and the value there with the polarity's sign.
+// A stationary point, NaN where there is none, and the value there with the polarity's sign.
+// Stays: `point_of` and `height_of` say both numbers, which go into lines of floats.
 #[derive(Clone, Copy)]
 pub struct Peak {
     pub p: f32,
@@ -41,15 +43,12 @@ pub fn stat_line(
 )
     requires n_bound { (n ≤ 256) × (z + n ≤ 780) }
     requires n_bound_2 { off + n ≤ 1560 }
-    requires p_len { (length p.old ≡ 1560) × (length v.old ≡ 1560) }
     ensures { Points sign a.now b.now c.now d.now r.now z off n
         p.old v.old p.new v.new }
 {
-    let mut i: usize = 0;
-    while i < n {
+    for i in 0..n {
         let t = turn(sign, a[z + i], b[z + i], c[z + i], d[z + i], r[i]);
         p[off + i] = t.p;
         v[off + i] = t.v;
-        i += 1;
     }
 }

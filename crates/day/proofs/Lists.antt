@@ -1,5 +1,6 @@
 -- What closing up leaves: the live records first, in their order, bit for bit, then free slots; a closed store stays as it is; and its live bytes are a list that
 -- the join takes. Assumes nothing.
+use Rattle.std.specs.Prelude.{Result, Ok, Err}
 use Prim.Native.Nat.{ℕ, zero, suc, ◌+◌, ◌-◌, ◌*◌, ◌/◌, ◌≤◌, ◌<◌}
 use native.Mathlib.Nat.{not-suc-le-zero, le_of_suc-le-suc}
 use native.Mathlib.Omega.{arith}
@@ -10,7 +11,6 @@ use lib.ListN.{length, get_or, take, replicate}
 use lib.Seq.{length-take-le, take_at, get_or-take, get_or-append-add}
 use borrow.Author.Tests.{not-false}
 use Rattle.tables.specs.declared.Set.{Set}
-use Rattle.tables.specs.declared.Checked.TheVariants.{Fine, Bad}
 use Rattle.tables.specs.declared.Refusal.TheVariants.{Records}
 use Rattle.tables.specs.Set.{good}
 use Rattle.tables.specs.Refusal.{first_of}
@@ -19,10 +19,11 @@ use Rattle.record.specs.Readable.{readable}
 use Rattle.record.proofs.Converse.{record-own}
 use Rattle.sized.specs.Sized.{sized_width}
 use Rattle.join.specs.Join.{join_checks, join_of}
-use Rattle.join.specs.declared.Joined.TheVariants.{Count}
 use Rattle.join.proofs.TakenLaws.{Taken, taken_records, taken_joined}
 use Rattle.store_slots.specs.Slots.{free_bytes, is_free, slots_of, flat, bad_slot}
 use Rattle.store.specs.Store.{CloseUp, call_checks, live_slots, closed_up, answer_of, slots_after, Outcome, outcome, call_of}
+use Rattle.tables.specs.declared.Refusal.{Refusal}
+use Rattle.store.specs.declared.Stored.{Stored}
 use Rattle.store.specs.declared.Stored.TheVariants.{Live}
 use Rattle.store_slots.proofs.SlotLaws.{sized_slots, length-flat, free-is, free-is-free, count_of, slots_of-flat, flat-slots_of, slot_is}
 use Rattle.store.proofs.StoreLaws.{close_passed, sized_live, sized_closed, call_done, done-fine}
@@ -87,8 +88,8 @@ settled (s ∷ ss) (suc n) h live rest =
     (rw (live 0 (omega arith)) (ap {B = List (List ℕ)} (λ r. s ∷ r) further.0), rw left (ap {B = List (List ℕ)} (λ r. s ∷ r) further.1))
 
 -- closing up is the identity on a closed store
-pub closed_kept : (rows cols n : ℕ) (b : List ℕ) → first_of (call_checks (CloseUp rows cols) b) ≡ Fine → n ≤ length b / spot_width → Closed b n
-    → call_of (CloseUp rows cols) b ≡ outcome (Live n) b
+pub closed_kept : (rows cols n : ℕ) (b : List ℕ) → first_of (call_checks (CloseUp rows cols) b) ≡ Ok tt → n ≤ length b / spot_width → Closed b n
+    → call_of (CloseUp rows cols) b ≡ outcome (Ok (Live n)) b
 unfolding answer_of slots_after closed_up
 closed_kept rows cols n b fine most closed =
     let p = settled (slots_of b) n (omega (arith, count_of b)) closed.live closed.rest in
@@ -97,7 +98,7 @@ closed_kept rows cols n b fine most closed =
 
 -- ---- what closing up leaves
 
-module _ (rows cols n : ℕ) (b : List ℕ) (closed : (call_of (CloseUp rows cols) b).answer ≡ Live n) where
+module _ (rows cols n : ℕ) (b : List ℕ) (closed : (call_of (CloseUp rows cols) b).answer ≡ Ok (Live n)) where
   -- the buffer afterwards
   abbrev after : List ℕ
   after = (call_of (CloseUp rows cols) b).buffer
@@ -106,16 +107,16 @@ module _ (rows cols n : ℕ) (b : List ℕ) (closed : (call_of (CloseUp rows col
   abbrev held : List (List ℕ)
   held = live_slots (slots_of b)
 
-  fine : first_of (call_checks (CloseUp rows cols) b) ≡ Fine
+  fine : first_of (call_checks (CloseUp rows cols) b) ≡ Ok tt
   fine = done-fine (CloseUp rows cols) b (λ r f. false≢true cc)
 
-  after_is : call_of (CloseUp rows cols) b ≡ outcome (Live (length held)) (flat (closed_up (slots_of b)))
+  after_is : call_of (CloseUp rows cols) b ≡ outcome (Ok (Live (length held))) (flat (closed_up (slots_of b)))
   unfolding answer_of slots_after
   after_is = call_done (CloseUp rows cols) b fine
 
   -- the live number is answered
   pub closed_count : n ≡ length held
-  closed_count = let e : Live n ≡ Live (length held) = sym closed ∙ ap (λ (o : Outcome). o.answer) after_is in cc
+  closed_count = let e : ◌≡◌ {A = Result Stored Refusal} (Ok (Live n)) (Ok (Live (length held))) = sym closed ∙ ap (λ (o : Outcome). o.answer) after_is in cc
 
   -- the free slots behind them
   abbrev behind : List (List ℕ)
@@ -171,9 +172,9 @@ module _ (rows cols n : ℕ) (b : List ℕ) (closed : (call_of (CloseUp rows col
       }
 
   -- the join never refuses the list with 5, whatever the set and the room
-  pub closed_never_records : (s : Set) (room i : ℕ) → first_of (join_checks false s rows cols (list_of after n) room) ≡ Bad (Records i) → ⊥
+  pub closed_never_records : (s : Set) (room i : ℕ) → first_of (join_checks false s rows cols (list_of after n) room) ≡ Err (Records i) → ⊥
   closed_never_records s room i = taken_records rows cols n (list_of after n) taken s room i
 
   -- and with a good set and room for the sized records it takes each
-  pub closed_joined : (s : Set) (out : List ℕ) → good s ≡ true → n * sized_width ≤ length out → (join_of s rows cols (list_of after n) out).answer ≡ Count n
+  pub closed_joined : (s : Set) (out : List ℕ) → good s ≡ true → n * sized_width ≤ length out → (join_of s rows cols (list_of after n) out).answer ≡ Ok n
   closed_joined s out is-good h = taken_joined rows cols n (list_of after n) taken s out is-good h

@@ -1,4 +1,5 @@
 -- The store is a simple list of optional spots: each call commutes with the list's, and so does any sequence of calls. Assumes nothing.
+use Rattle.std.specs.Prelude.{Result, Ok, Err, ⊤}
 use Prim.Native.Nat.{ℕ, zero, suc, ◌-◌, ◌/◌, ◌%◌}
 use mathlib.Core.Bool.{Bool, true, false, not, cond, ◌||◌}
 use mathlib.Core.Path.{◌≡◌, refl, sym, ap, ◌∙◌}
@@ -6,9 +7,8 @@ use mathlib.Core.List.{List, [], ◌∷◌, ◌++◌, map, map-append}
 use mathlib.Core.Option.{Option, none, some}
 use lib.ListN.{length, get_or, set, replicate, length-map, get_or-map}
 use borrow.Author.Tests.{eq-eqb}
-use Rattle.tables.specs.declared.Checked.{Checked}
-use Rattle.tables.specs.declared.Checked.TheVariants.{Fine, Bad}
 use Rattle.tables.specs.Refusal.{first_of, unless}
+use Rattle.tables.specs.declared.Refusal.{Refusal}
 use Rattle.record.specs.Layout.{spot_width, record_from}
 use Rattle.record.specs.Readable.{readable}
 use Rattle.store_slots.specs.Slots.{free_bytes, is_free, slots_of, first_where, bad_slot}
@@ -127,7 +127,7 @@ module _ {A : Type 0} (ok : ℕ → ℕ → A → Bool) (read : List ℕ → A) 
     checks_same (CloseUp rows cols) = rw (bad-same rows cols (slots_of b), count_same, eq-eqb (length b % spot_width) 0 whole)
 
     -- and what no check refuses answers and leaves the same
-    done-same : (c : Call) → first_of (call_checks c b) ≡ Fine → done_list ok read c (spots (slots_of b)) ≡ result (answer_of c (slots_of b)) (spots (slots_after c (slots_of b)))
+    done-same : (c : Call) → first_of (call_checks c b) ≡ Ok tt → done_list ok read c (spots (slots_of b)) ≡ result (answer_of c (slots_of b)) (spots (slots_after c (slots_of b)))
     unfolding done_list answer_of slots_after
     done-same Clear h = rw (length-map (slots_of b) spot, map-replicate spot (length (slots_of b)) free_bytes, spot-free free_bytes free-is-free)
     done-same (Add rows cols new) h =
@@ -141,10 +141,10 @@ module _ {A : Type 0} (ok : ℕ → ℕ → A → Bool) (read : List ℕ → A) 
     unfolding call_list ended_list
     call_same c = rw (checks_same c) (go (first_of (call_checks c b)) refl)
       where
-        go : (w : Checked) → first_of (call_checks c b) ≡ w
+        go : (w : Result ⊤ Refusal) → first_of (call_checks c b) ≡ w
             → ended_list ok read w (spots (slots_of b)) (done_list ok read c (spots (slots_of b))) ≡ result (call_of c b).answer (spots (slots_of (call_of c b).buffer))
-        go (Bad r) e = rw (call_refused c b r e)
-        go Fine e = rw (call_done c b e, slots_of-flat (slots_after c (slots_of b)) (sized_after c b e)) (done-same c e)
+        go (Err r) e = rw (call_refused c b r e)
+        go (Ok _) e = rw (call_done c b e, slots_of-flat (slots_after c (slots_of b)) (sized_after c b e)) (done-same c e)
 
   -- ---- any sequence of calls
 
@@ -161,7 +161,7 @@ module _ {A : Type 0} (ok : ℕ → ℕ → A → Bool) (read : List ℕ → A) 
   pub answers-same : (cs : List Call) (b : List ℕ) → length b % spot_width ≡ 0 → list_answers ok read cs (spots_by read b) ≡ answers_of cs b
   unfolding list_answers answers_of
   answers-same [] b h = refl
-  answers-same (c ∷ cs) b h = rw (call_same b h c) (ap {B = List Stored} (λ r. (call_of c b).answer ∷ r) (answers-same cs (call_of c b).buffer (kept_whole c b h)))
+  answers-same (c ∷ cs) b h = rw (call_same b h c) (ap {B = List (Result Stored Refusal)} (λ r. (call_of c b).answer ∷ r) (answers-same cs (call_of c b).buffer (kept_whole c b h)))
 
 -- ---- spots as records, and as their bytes
 
@@ -194,9 +194,9 @@ cleared_spots cs b h =
 pub broken-kept : (c : Call) (b : List ℕ) → (length b % spot_width ≡ 0 → ⊥) → (call_of c b).buffer ≡ b
 broken-kept c b broken = go (first_of (call_checks c b)) refl
   where
-    go : (w : Checked) → first_of (call_checks c b) ≡ w → (call_of c b).buffer ≡ b
-    go (Bad r) e = ap (λ (o : Outcome). o.buffer) (call_refused c b r e)
-    go Fine e = absurd (broken (whole-passed c b e))
+    go : (w : Result ⊤ Refusal) → first_of (call_checks c b) ≡ w → (call_of c b).buffer ≡ b
+    go (Err r) e = ap (λ (o : Outcome). o.buffer) (call_refused c b r e)
+    go (Ok _) e = absurd (broken (whole-passed c b e))
 
 -- and so does any sequence
 pub broken-after : (cs : List Call) (b : List ℕ) → (length b % spot_width ≡ 0 → ⊥) → buffer_after cs b ≡ b

@@ -1,24 +1,24 @@
 -- What a store stands for: a simple list of optional spots. No bytes here but a new record's. Definitions only.
-use Rattle.std.specs.Prelude.{ℕ, suc, ◌-◌, Bool, true, false, not, cond, ◌&&◌, List, [], ◌∷◌, ◌++◌, map, ltb, leb, eqb, length, get_or, set, replicate}
+use Rattle.std.specs.Prelude.{ℕ, suc, ◌-◌, Bool, true, false, not, cond, ◌&&◌, List, [], ◌∷◌, ◌++◌, map, ltb, leb, eqb, length, get_or, set, replicate, Ok, Err, ⊤}
+use Rattle.std.specs.Prelude as std
 use Rattle.std.proofs.Math.Option.{Option, none, some}
 use Rattle.tables.specs.declared.Refusal.TheVariants.{Records, Room, NoSpot}
-use Rattle.tables.specs.declared.Checked.{Checked}
-use Rattle.tables.specs.declared.Checked.TheVariants.{Fine, Bad}
+use Rattle.tables.specs.declared.Refusal.{Refusal}
 use Rattle.tables.specs.Refusal.{Check, ◌when◌, first_of, sides_check}
 use Rattle.record.specs.Layout.{spot_width}
 use Rattle.store.specs.Store.{Call, Clear, Add, Strike, CloseUp}
 use Rattle.store.specs.declared.Stored.{Stored}
-use Rattle.store.specs.declared.Stored.TheVariants.{Done, At, Live, Refused}
+use Rattle.store.specs.declared.Stored.TheVariants.{Done, At, Live}
 
 -- an answer, and the list after it
 pub record Result (A : Type 0) : Type 0 where
-  pub answer : Stored
+  pub answer : std.Result Stored Refusal
   pub spots : List (Option A)
 
 -- A spot is a value of A: a record, or its bytes.
 module _ {A : Type 0} where
   -- these two, given one by one
-  abbrev pub result : Stored → List (Option A) → Result A
+  abbrev pub result : std.Result Stored Refusal → List (Option A) → Result A
   result a l = record { answer = a; spots = l }
 
   -- no spot
@@ -64,15 +64,15 @@ module _ {A : Type 0} (ok : ℕ → ℕ → A → Bool) (read : List ℕ → A) 
 
   -- what a call does: its answer, and the list after it
   unfoldable pub done_list : Call → List (Option A) → Result A
-  done_list Clear l = result Done (replicate (length l) none)
-  done_list (Add rows cols new) l = result (At (lowest l)) (set l (lowest l) (some (read new)))
-  done_list (Strike rows cols i) l = result Done (set l i none)
-  done_list (CloseUp rows cols) l = result (Live (length (live l))) (map some (live l) ++ replicate (length l - length (live l)) none)
+  done_list Clear l = result (Ok Done) (replicate (length l) none)
+  done_list (Add rows cols new) l = result (Ok (At (lowest l))) (set l (lowest l) (some (read new)))
+  done_list (Strike rows cols i) l = result (Ok Done) (set l i none)
+  done_list (CloseUp rows cols) l = result (Ok (Live (length (live l)))) (map some (live l) ++ replicate (length l - length (live l)) none)
 
   -- a refusal leaves the list as it was; otherwise the call is done
-  unfoldable pub ended_list : Checked → List (Option A) → Result A → Result A
-  ended_list (Bad r) l done = result (Refused r) l
-  ended_list Fine l done = done
+  unfoldable pub ended_list : std.Result ⊤ Refusal → List (Option A) → Result A → Result A
+  ended_list (Err r) l done = result (Err r) l
+  ended_list (Ok _) l done = done
 
   -- the whole of a call
   unfoldable pub call_list : Call → List (Option A) → Result A

@@ -1,5 +1,5 @@
 -- Any sequence of calls, on a buffer and on the simple list, and the list that a buffer stands for. Definitions only.
-use Rattle.std.specs.Prelude.{ℕ, Bool, cond, List, [], ◌∷◌, map}
+use Rattle.std.specs.Prelude.{ℕ, Bool, cond, List, [], ◌∷◌, map, Result}
 use Rattle.std.proofs.Math.Option.{Option, none, some}
 use Rattle.record.specs.declared.Record.{Record}
 use Rattle.record.specs.Layout.{record_from}
@@ -7,6 +7,7 @@ use Rattle.store_slots.specs.Slots.{is_free, slots_of}
 use Rattle.store.specs.Store.{Call, call_of}
 use Rattle.store.specs.declared.Stored.{Stored}
 use Rattle.day.specs.Model.{call_list}
+use Rattle.tables.specs.declared.Refusal.{Refusal}
 
 -- ---- on a buffer
 
@@ -16,7 +17,7 @@ buffer_after [] b = b
 buffer_after (c ∷ cs) b = buffer_after cs (call_of c b).buffer
 
 -- what each answered
-unfoldable pub answers_of : List Call → List ℕ → List Stored
+unfoldable pub answers_of : List Call → List ℕ → List (Result Stored Refusal)
 answers_of [] b = []
 answers_of (c ∷ cs) b = (call_of c b).answer ∷ answers_of cs (call_of c b).buffer
 
@@ -29,7 +30,7 @@ module _ {A : Type 0} (ok : ℕ → ℕ → A → Bool) (read : List ℕ → A) 
   list_after (c ∷ cs) l = list_after cs (call_list ok read c l).spots
 
   -- what each answered
-  unfoldable pub list_answers : List Call → List (Option A) → List Stored
+  unfoldable pub list_answers : List Call → List (Option A) → List (Result Stored Refusal)
   list_answers [] l = []
   list_answers (c ∷ cs) l = (call_list ok read c l).answer ∷ list_answers cs (call_list ok read c l).spots
 

@@ -1,4 +1,5 @@
 -- Detection's output, as written, is accepted by the join with the same rows and cols, whatever the map. Assumes nothing.
+use Rattle.std.specs.Prelude.{Ok}
 use Prim.Native.Nat.{ℕ, zero, suc, ◌+◌, ◌*◌, ◌≤◌, ◌<◌}
 use native.Mathlib.Omega.{arith}
 use mathlib.Core.Path.{◌≡◌, refl, sym, ap, subst, ◌∙◌}
@@ -19,7 +20,6 @@ use Rattle.record.proofs.Converse.{same-bytes-same-record}
 use Rattle.samples.specs.Level.{Maps, maps_of}
 use Rattle.detect.specs.Due.{due}
 use Rattle.detect.specs.Detect.{Outcome, detect_of}
-use Rattle.detect.specs.declared.Answer.TheVariants.{Found}
 use Rattle.detect.proofs.RefusalsLaws.{found_passed}
 use Rattle.join.proofs.TakenLaws.{Taken, taken_count, taken_records, taken_fine, taken_joined}
 use Rattle.demands.specs.List.{StandsAt}
@@ -91,7 +91,7 @@ module _ (s : Set) (th : Thresholds) (rows cols octave : ℕ) (l0 l1 l2 l3 : Lis
   after = detect_of s th rows cols octave l0 l1 l2 l3 out
 
   -- The records that a call of detection wrote are accepted by the join with the same rows and cols: there is no refusal 5, and with a good set and room for the sized records their count is answered.
-  pub output_joined : (n : ℕ) → after.answer ≡ Found n → Joins rows cols found (written found out) (take (written found out * spot_width) after.buffer)
+  pub output_joined : (n : ℕ) → after.answer ≡ Ok n → Joins rows cols found (written found out) (take (written found out * spot_width) after.buffer)
   output_joined n h =
       let sides = (found_passed s th rows cols octave l0 l1 l2 l3 out n h).sized in
       let m : Maps = maps_of l0 l1 l2 l3 (record { rows = rows; cols = cols; octave = octave }) s th in

@@ -1,4 +1,5 @@
 -- What stands in the list, and in which order. Assumes nothing.
+use Rattle.std.specs.Prelude.{Option, Some, None}
 use Prim.Native.Nat.{ℕ, zero, suc, ◌+◌, ◌-◌, ◌*◌, ◌≤◌, ◌<◌}
 use native.Mathlib.Omega.{arith}
 use native.Mathlib.Nat.{eq-or-lt_of_le}
@@ -8,8 +9,6 @@ use mathlib.Core.Logic.{◌↔◌, ⊎_elim, inl, inr}
 use mathlib.Core.List.{List, []}
 use lib.Arith.{digits_lt, digits_div, digits_mod}
 use Rattle.record.specs.declared.Record.{Record}
-use Rattle.pixel.specs.declared.Verdict.{Verdict}
-use Rattle.pixel.specs.declared.Verdict.TheVariants.{Listed, Nothing}
 use Rattle.pixel.specs.Verdict.{polarity_of}
 use Rattle.samples.specs.Level.{Maps}
 use Rattle.pixel.specs.Listed.{listed}
@@ -21,17 +20,17 @@ use Rattle.demands.proofs.Places.{at_short, stands-left, stands-right, stands_ca
 
 -- ---- what a verdict lists
 
-pub verdict_only : (v : Verdict) (i : ℕ) (r : Record) → StandsAt (listed v) i r → v ≡ Listed r
+pub verdict_only : (v : Option Record) (i : ℕ) (r : Record) → StandsAt (listed v) i r → v ≡ Some r
 unfolding listed StandsAt
-verdict_only (Listed s) zero r h = ap Listed h
-verdict_only (Listed s) (suc i) r h = absurd h
-verdict_only Nothing i r h = absurd h
+verdict_only (Some s) zero r h = ap Some h
+verdict_only (Some s) (suc i) r h = absurd h
+verdict_only None i r h = absurd h
 
-verdict_all : (v : Verdict) (r : Record) → v ≡ Listed r → StandsAt (listed v) 0 r
+verdict_all : (v : Option Record) (r : Record) → v ≡ Some r → StandsAt (listed v) 0 r
 unfolding listed StandsAt
 verdict_all v r h = rw h refl
 
-verdict_rising : (v : Verdict) → Rising (listed v)
+verdict_rising : (v : Option Record) → Rising (listed v)
 verdict_rising v i j r t k a b =
     let short = listed-short v in
     let below = at_short (listed v) j t b in
@@ -60,7 +59,7 @@ module _ (m : Maps) where
 
   pub record OfPixel (row col : ℕ) (r : Record) : Type 0 where
     pub is_max : Bool
-    pub verdict : judge_of m row col is_max ≡ Listed r
+    pub verdict : judge_of m row col is_max ≡ Some r
 
   pub pixel_only : (row col : ℕ) (r : Record) → Stands (pixel_due m row col) r → OfPixel row col r
   unfolding pixel_due
@@ -69,7 +68,7 @@ module _ (m : Maps) where
       (λ k. record { is_max = true; verdict = verdict_only (judge_of m row col true) k.place r k.there })
       (stands_cases (lows row col) (highs row col) r h)
 
-  pub pixel_all : (row col : ℕ) (is_max : Bool) (r : Record) → judge_of m row col is_max ≡ Listed r → Stands (pixel_due m row col) r
+  pub pixel_all : (row col : ℕ) (is_max : Bool) (r : Record) → judge_of m row col is_max ≡ Some r → Stands (pixel_due m row col) r
   unfolding pixel_due
   pixel_all row col false r h = stands-left (lows row col) (highs row col) r (record { place = 0; there = verdict_all _ r h })
   pixel_all row col true r h = stands-right (lows row col) (highs row col) r (record { place = 0; there = verdict_all _ r h })
@@ -101,7 +100,7 @@ module _ (m : Maps) where
       (λ k. record { number = n; below = omega arith; pixel = pixel_only row (n + 4) r k })
       (stands_cases (row_due m row n) (pixel_due m row (n + 4)) r h)
 
-  row-all : (row n k : ℕ) (is_max : Bool) (r : Record) → k < n → judge_of m row (k + 4) is_max ≡ Listed r → Stands (row_due m row n) r
+  row-all : (row n k : ℕ) (is_max : Bool) (r : Record) → k < n → judge_of m row (k + 4) is_max ≡ Some r → Stands (row_due m row n) r
   unfolding row_due
   row-all row zero k is_max r p h = let z : ⊥ = omega arith in absurd z
   row-all row (suc n) k is_max r p h =

@@ -1,4 +1,5 @@
 -- Demand 3: the list of a map that lost pixels is the whole map's, less the spots with a lost pixel among their 21. Assumes nothing.
+use Rattle.std.specs.Prelude.{Option, Some, None}
 use Prim.Native.Nat.{ℕ, zero, suc, ◌+◌, ◌-◌, ◌*◌, ◌/◌, ◌%◌, ◌≤◌, ◌<◌}
 use native.Mathlib.Omega.{arith}
 use mathlib.Core.Path.{◌≡◌, refl, sym, ap, ◌∙◌}
@@ -11,8 +12,6 @@ use Rattle.tables.specs.declared.Set.{Set}
 use Rattle.tables.specs.declared.Thresholds.{Thresholds}
 use Rattle.record.specs.declared.Record.{Record}
 use Rattle.pixel.specs.declared.Frame.{Frame}
-use Rattle.pixel.specs.declared.Verdict.{Verdict}
-use Rattle.pixel.specs.declared.Verdict.TheVariants.{Listed, Nothing}
 use Rattle.pixel.specs.Verdict.{whole_of}
 use Rattle.samples.specs.Level.{Maps, maps_of, nine_at}
 use Rattle.pixel.specs.Listed.{listed}
@@ -37,11 +36,11 @@ keep_append test [] ys = refl
 keep_append test (r ∷ xs) ys = rw (keep_append test xs ys) (sym (cond-append (test r) r (keep test xs) (keep test ys)))
 
 -- what a verdict lists is kept whole or not at all, where the test is t at its record
-keep-listed : (test : Record → Bool) (t : Bool) (v : Verdict) → ((r : Record) → v ≡ Listed r → test r ≡ t) → keep test (listed v) ≡ cond t (listed v) []
+keep-listed : (test : Record → Bool) (t : Bool) (v : Option Record) → ((r : Record) → v ≡ Some r → test r ≡ t) → keep test (listed v) ≡ cond t (listed v) []
 unfolding keep listed
-keep-listed test t (Listed r) h = rw (h r refl)
-keep-listed test true Nothing h = refl
-keep-listed test false Nothing h = refl
+keep-listed test t (Some r) h = rw (h r refl)
+keep-listed test true None h = refl
+keep-listed test false None h = refl
 
 module _ (lost : ℕ → ℕ → Bool) (f : Frame) (s : Set) (th : Thresholds) (a0 a1 a2 a3 b0 b1 b2 b3 : List Float)
     (h : Lossy lost (maps_of a0 a1 a2 a3 f s th) (maps_of b0 b1 b2 b3 f s th)) where
@@ -76,7 +75,7 @@ module _ (lost : ℕ → ℕ → Bool) (f : Frame) (s : Set) (th : Thresholds) (
         let there = nine_finite B row col (omega arith) (omega arith) whole r c on in
         excluded (λ gone. h.gone r c (omega arith) (omega arith) gone) there
 
-    judged-none : clear lost row col ≡ false → (is_max : Bool) → judge_of B row col is_max ≡ Nothing
+    judged-none : clear lost row col ≡ false → (is_max : Bool) → judge_of B row col is_max ≡ None
     judged-none t is_max =
         judged-nothing B row col is_max
         (contrary (λ whole. (clear-is lost row col).1 (not_lost whole)) t)

@@ -1,12 +1,11 @@
 -- Two maps, of which the second has lost pixels, and the 21 pixels of a spot. Definitions only.
-use Rattle.std.specs.Prelude.{ℕ, zero, suc, ◌+◌, ◌-◌, ◌/◌, ◌%◌, ◌<◌, ◌≡◌, Bool, true, false, not, cond, ◌&&◌, List, [], ◌∷◌, length, leb, eqb}
+use Rattle.std.specs.Prelude.{ℕ, zero, suc, ◌+◌, ◌-◌, ◌/◌, ◌%◌, ◌<◌, ◌≡◌, Bool, true, false, not, cond, ◌&&◌, List, [], ◌∷◌, length, leb, eqb, Ok}
 use Rattle.float.specs.Small.{finite}
 use Rattle.record.specs.declared.Record.{Record}
 use Rattle.record.specs.Layout.{laid}
 use Rattle.grid.specs.Grid.{pixel_at}
 use Rattle.samples.specs.Level.{Maps}
 use Rattle.detect.specs.Detect.{Outcome, outcome}
-use Rattle.detect.specs.declared.Answer.TheVariants.{Found}
 
 -- ---- the 21 pixels
 
@@ -67,7 +66,7 @@ pub record Cross (P : ℕ → ℕ → Type 0) (row col : ℕ) : Type 0 where
 
 -- what a call of detection answers and leaves in the buffer, where it lists rs
 abbrev pub lists : List Record → List ℕ → Outcome
-lists rs out = outcome (Found (length rs)) (laid rs out)
+lists rs out = outcome (Ok (length rs)) (laid rs out)
 
 -- of two calls the first lists rs, and the second those of rs that pass the test
 pub record Struck (test : Record → Bool) (rs : List Record) (out out' : List ℕ) (first second : Outcome) : Type 0 where

@@ -5,7 +5,6 @@ ghost use Rattle.std.specs.Prelude.{◌≡◌};
 ghost use Rattle.detect.specs.Detect.{outcome};
 ghost use Rattle.desk_run.specs.Run.{run_of};
 
-use detect::Answer;
 use tables::{Refusal, Thresholds};
 
 // Lists the spots of four levels in the buffer out, under the set that stands in a slot which a desk owns; whoever calls it.
@@ -21,12 +20,12 @@ pub fn run<'a>(
     l2: &'a [f32],
     l3: &'a [f32],
     out: &mut [u8],
-) -> Answer
+) -> Result<usize, Refusal>
     ensures { outcome result out.new
         ≡ run_of table.now slot thresholds rows cols octave l0.now l1.now l2.now l3.now out.old }
 {
     if !desks::table::is_runnable(table, slot) {
-        return Answer::Refused(Refusal::NotYours);
+        return Err(Refusal::NotYours);
     }
     let set = desks::table::set_in(table, slot);
     detect::detect(set, thresholds, rows, cols, octave, l0, l1, l2, l3, out)

@@ -1,4 +1,5 @@
 -- What a desk's call settles: the first refusal that applies, by its place; that a refusal changes nothing; what a call that is done had. Assumes nothing.
+use Rattle.std.specs.Prelude.{Result, Ok, Err, ⊤}
 use Prim.Native.Nat.{ℕ, ◌<◌}
 use native.Mathlib.Omega.{arith}
 use mathlib.Core.Bool.{Bool, true, false, not, ◌&&◌, ◌||◌, false≢true}
@@ -10,14 +11,11 @@ use borrow.Author.Tests.{eqb-true, ltb-true, leb-false, not-false}
 use Rattle.float.proofs.Bools.{both}
 use Rattle.tables.specs.declared.Refusal.{Refusal}
 use Rattle.tables.specs.declared.Refusal.TheVariants.{NotYours}
-use Rattle.tables.specs.declared.Checked.{Checked}
-use Rattle.tables.specs.declared.Checked.TheVariants.{Fine, Bad}
 use Rattle.tables.specs.Refusal.{Check, first_of, unless, said_at, First}
 use Rattle.tables.specs.Set.{good_record}
 use Rattle.tables.proofs.RefusalLaws as laws
 use Rattle.desks.specs.Table.{table_width, Slot, slot_of, At, a_desk, runnable}
 use Rattle.desks.specs.Desks.{Act, Claim, Write, Release, usable, needed, top, call_checks, zeros, Outcome, finished, call_of}
-use Rattle.desks.specs.declared.Told.TheVariants.{Done, Refused}
 
 pub length-zeros : length zeros ≡ 528
 unfolding zeros
@@ -62,20 +60,20 @@ yours_of act desk u s e =
 
 module _ (desk : ℕ) (u : Bool) (s : Slot) where
   -- what is not so is refused with 11
-  pub not-owned : (act : Act) → (u && eqb s.owner (needed act desk)) ≡ false → first_of (call_checks act desk u s) ≡ Bad NotYours
+  pub not-owned : (act : Act) → (u && eqb s.owner (needed act desk)) ≡ false → first_of (call_checks act desk u s) ≡ Err NotYours
   unfolding call_checks first_of unless
   not-owned Claim e = rw e
   not-owned (Write new) e = rw e
   not-owned Release e = rw e
 
-  pub claim_fine : first_of (call_checks Claim desk u s) ≡ Fine → Yours Claim desk u s × (s.count < top)
+  pub claim_fine : first_of (call_checks Claim desk u s) ≡ Ok tt → Yours Claim desk u s × (s.count < top)
   unfolding call_checks first_of
   claim_fine e =
       let first = laws.unless-fine (not (u && eqb s.owner (needed Claim desk))) _ _ e in
       let second = laws.unless-fine (leb top s.count) _ _ first.1 in
       (yours_of Claim desk u s first.0, leb-false top s.count second.0)
 
-  pub write_fine : (new : List ℕ) → first_of (call_checks (Write new) desk u s) ≡ Fine → Yours (Write new) desk u s × (s.count < top) × (good_record new ≡ true)
+  pub write_fine : (new : List ℕ) → first_of (call_checks (Write new) desk u s) ≡ Ok tt → Yours (Write new) desk u s × (s.count < top) × (good_record new ≡ true)
   unfolding call_checks first_of
   write_fine new e =
       let first = laws.unless-fine (not (u && eqb s.owner (needed (Write new) desk))) _ _ e in
@@ -83,26 +81,26 @@ module _ (desk : ℕ) (u : Bool) (s : Slot) where
       let third = laws.unless-fine (not (good_record new)) _ _ second.1 in
       (yours_of (Write new) desk u s first.0, leb-false top s.count second.0, not-false (good_record new) third.0)
 
-  pub release_fine : first_of (call_checks Release desk u s) ≡ Fine → Yours Release desk u s
+  pub release_fine : first_of (call_checks Release desk u s) ≡ Ok tt → Yours Release desk u s
   unfolding call_checks first_of
   release_fine e = yours_of Release desk u s (laws.unless-fine (not (u && eqb s.owner (needed Release desk))) _ _ e).0
 
 -- ---- the refusals of a call
 
-answer-refused : (w : Checked) (t new : List ℕ) (r : Refusal) → (finished w t new).answer ≡ Refused r → w ≡ Bad r
+answer-refused : (w : Result ⊤ Refusal) (t new : List ℕ) (r : Refusal) → (finished w t new).answer ≡ Err r → w ≡ Err r
 unfolding finished
-answer-refused (Bad q) t new r e = cc
-answer-refused Fine t new r e = cc
+answer-refused (Err q) t new r e = cc
+answer-refused (Ok _) t new r e = cc
 
-answer-done : (w : Checked) (t new : List ℕ) → (finished w t new).answer ≡ Done → w ≡ Fine
+answer-done : (w : Result ⊤ Refusal) (t new : List ℕ) → (finished w t new).answer ≡ Ok tt → w ≡ Ok tt
 unfolding finished
-answer-done (Bad q) t new e = cc
-answer-done Fine t new e = refl
+answer-done (Err q) t new e = cc
+answer-done (Ok _) t new e = refl
 
-table_kept : (w : Checked) (t new : List ℕ) (r : Refusal) → (finished w t new).answer ≡ Refused r → (finished w t new).table ≡ t
+table_kept : (w : Result ⊤ Refusal) (t new : List ℕ) (r : Refusal) → (finished w t new).answer ≡ Err r → (finished w t new).table ≡ t
 unfolding finished
-table_kept (Bad q) t new r e = refl
-table_kept Fine t new r e = cc
+table_kept (Err q) t new r e = refl
+table_kept (Ok _) t new r e = cc
 
 module _ (act : Act) (t : List ℕ) (desk i : ℕ) where
   -- the checks of this call
@@ -113,28 +111,28 @@ module _ (act : Act) (t : List ℕ) (desk i : ℕ) where
   after = call_of act t desk i
 
   -- a refusal that is answered is that of the first check that holds
-  pub refused-first : (r : Refusal) → after.answer ≡ Refused r → First checks r
+  pub refused-first : (r : Refusal) → after.answer ≡ Err r → First checks r
   unfolding call_of
   refused-first r e = laws.first-refused checks r (answer-refused _ t _ r e)
 
   -- and the first that holds is answered
-  pub first_answered : (r : Refusal) → First checks r → after.answer ≡ Refused r
+  pub first_answered : (r : Refusal) → First checks r → after.answer ≡ Err r
   unfolding call_of finished
   first_answered r f = rw (laws.refused-first checks r f)
 
   -- a refusal changes nothing
-  pub refused_keeps : (r : Refusal) → after.answer ≡ Refused r → after.table ≡ t
+  pub refused_keeps : (r : Refusal) → after.answer ≡ Err r → after.table ≡ t
   unfolding call_of
   refused_keeps r e = table_kept _ t _ r e
 
   -- what passes every check is done, and only that
-  pub done-fine : after.answer ≡ Done → first_of checks ≡ Fine
+  pub done-fine : after.answer ≡ Ok tt → first_of checks ≡ Ok tt
   unfolding call_of
   done-fine e = answer-done _ t _ e
 
-  pub done_none : after.answer ≡ Done → (k : ℕ) → said_at checks k ≡ Fine
+  pub done_none : after.answer ≡ Ok tt → (k : ℕ) → said_at checks k ≡ Ok tt
   done_none e = laws.first_fine checks (done-fine e)
 
-  pub none_done : ((k : ℕ) → said_at checks k ≡ Fine) → after.answer ≡ Done
+  pub none_done : ((k : ℕ) → said_at checks k ≡ Ok tt) → after.answer ≡ Ok tt
   unfolding call_of finished
   none_done h = rw (laws.fine-first checks h)

@@ -1,4 +1,5 @@
 -- What is left of each function's proof, over plain values. Assumes nothing.
+use Rattle.std.specs.Prelude.{Result, Ok, Err, ⊤, is_ok}
 use Prim.Native.Nat.{ℕ, ◌+◌, ◌-◌, ◌*◌, ◌≤◌, ◌<◌}
 use native.Mathlib.Numerals.{add-one}
 use native.Mathlib.Omega.{arith}
@@ -10,17 +11,13 @@ use lib.ListN.{length, take, drop, set}
 use lib.Seq.{sets, take_all}
 use borrow.Author.Tests.{eq-eqb, ne_eqb, le-ltb, lt-ltb}
 use Rattle.words.specs.Words.{word_bytes}
-use Rattle.tables.specs.declared.SetRead.{SetRead}
 use Rattle.tables.specs.declared.Refusal.{Refusal}
 use Rattle.tables.specs.declared.Refusal.TheVariants.{Count, BadSet}
-use Rattle.tables.specs.declared.Checked.{Checked}
-use Rattle.tables.specs.declared.Checked.TheVariants.{Fine, Bad}
 use Rattle.tables.specs.Refusal.{first_of, unless, read_set_of, refused_set}
 use Rattle.tables.specs.Set.{good_record}
-use Rattle.tables.proofs.SetLaws.{bad-record-refused}
+use Rattle.tables.proofs.SetLaws.{good-record_read, bad-record-refused}
 use Rattle.desks.specs.Table.{table_width, owner_place, slot_of, Slot, a_desk, runnable}
 use Rattle.desks.specs.Desks.{Act, Claim, Write, Release, usable, needed, top, call_checks, zeros, stored, outcome, finished, call_of}
-use Rattle.desks.specs.declared.Told.TheVariants.{Done, Refused}
 use Rattle.desks.proofs.CallLaws.{length-zeros}
 
 -- ---- what is read
@@ -28,14 +25,14 @@ use Rattle.desks.proofs.CallLaws.{length-zeros}
 pub part_record : (t : List ℕ) (at : ℕ) → take (at + 528 - at) (drop at t) ≡ take 528 (drop at t)
 part_record t at = let w : at + 528 - at ≡ 528 = omega arith in rw w
 
--- a record that the reader finds fine is good
-pub fine-good : (b : List ℕ) → (read_set_of b).answer ≡ Fine → good_record b ≡ true
+-- the reader finds a record fine exactly where it is good
+pub read-good : (b : List ℕ) → is_ok (read_set_of b) ≡ good_record b
 unfolding refused_set
-fine-good b e = go (good_record b) refl
+read-good b = go (good_record b) refl
   where
-    go : (t : Bool) → good_record b ≡ t → good_record b ≡ true
-    go true t = t
-    go false t = let z : Bad BadSet ≡ Fine = sym (ap (λ (r : SetRead). r.answer) (bad-record-refused b t)) ∙ e in cc
+    go : (t : Bool) → good_record b ≡ t → is_ok (read_set_of b) ≡ good_record b
+    go true t = rw (good-record_read b t) (sym t)
+    go false t = rw (bad-record-refused b t) (sym t)
 
 module _ (t : List ℕ) (i : ℕ) where
   pub wrong_length : (length t ≡ table_width → ⊥) → runnable t i ≡ false
@@ -53,38 +50,38 @@ module _ (t : List ℕ) (i : ℕ) where
 -- ---- the checks
 
 module _ (desk : ℕ) (u : Bool) (s : Slot) where
-  pub claim_full : (u && eqb s.owner (needed Claim desk)) ≡ true → leb top s.count ≡ true → first_of (call_checks Claim desk u s) ≡ Bad Count
+  pub claim_full : (u && eqb s.owner (needed Claim desk)) ≡ true → leb top s.count ≡ true → first_of (call_checks Claim desk u s) ≡ Err Count
   unfolding call_checks first_of unless
   claim_full e f = rw (e, f)
 
-  pub claim_passes : (u && eqb s.owner (needed Claim desk)) ≡ true → leb top s.count ≡ false → first_of (call_checks Claim desk u s) ≡ Fine
+  pub claim_passes : (u && eqb s.owner (needed Claim desk)) ≡ true → leb top s.count ≡ false → first_of (call_checks Claim desk u s) ≡ Ok tt
   unfolding call_checks first_of unless
   claim_passes e f = rw (e, f)
 
-  pub write_full : (new : List ℕ) → (u && eqb s.owner (needed (Write new) desk)) ≡ true → leb top s.count ≡ true → first_of (call_checks (Write new) desk u s) ≡ Bad Count
+  pub write_full : (new : List ℕ) → (u && eqb s.owner (needed (Write new) desk)) ≡ true → leb top s.count ≡ true → first_of (call_checks (Write new) desk u s) ≡ Err Count
   unfolding call_checks first_of unless
   write_full new e f = rw (e, f)
 
-  pub write_bad : (new : List ℕ) → (u && eqb s.owner (needed (Write new) desk)) ≡ true → leb top s.count ≡ false → good_record new ≡ false → first_of (call_checks (Write new) desk u s) ≡ Bad BadSet
+  pub write_bad : (new : List ℕ) → (u && eqb s.owner (needed (Write new) desk)) ≡ true → leb top s.count ≡ false → good_record new ≡ false → first_of (call_checks (Write new) desk u s) ≡ Err BadSet
   unfolding call_checks first_of unless
   write_bad new e f g = rw (e, f, g)
 
-  pub write_passes : (new : List ℕ) → (u && eqb s.owner (needed (Write new) desk)) ≡ true → leb top s.count ≡ false → good_record new ≡ true → first_of (call_checks (Write new) desk u s) ≡ Fine
+  pub write_passes : (new : List ℕ) → (u && eqb s.owner (needed (Write new) desk)) ≡ true → leb top s.count ≡ false → good_record new ≡ true → first_of (call_checks (Write new) desk u s) ≡ Ok tt
   unfolding call_checks first_of unless
   write_passes new e f g = rw (e, f, g)
 
-  pub release_passes : (u && eqb s.owner (needed Release desk)) ≡ true → first_of (call_checks Release desk u s) ≡ Fine
+  pub release_passes : (u && eqb s.owner (needed Release desk)) ≡ true → first_of (call_checks Release desk u s) ≡ Ok tt
   unfolding call_checks first_of unless
   release_passes e = rw e
 
 -- ---- a call
 
 module _ (act : Act) (t : List ℕ) (desk i : ℕ) where
-  pub refused-with : (w : Checked) (r : Refusal) → w ≡ first_of (call_checks act desk (usable desk i t) (slot_of t i)) → w ≡ Bad r → outcome (Refused r) t ≡ call_of act t desk i
+  pub refused-with : (w : Result ⊤ Refusal) (r : Refusal) → w ≡ first_of (call_checks act desk (usable desk i t) (slot_of t i)) → w ≡ Err r → outcome (Err r) t ≡ call_of act t desk i
   unfolding call_of finished
   refused-with w r e f = rw (← e, f)
 
-  pub done-with : (w : Checked) (t' : List ℕ) → w ≡ first_of (call_checks act desk (usable desk i t) (slot_of t i)) → w ≡ Fine → t' ≡ stored act desk i t → outcome Done t' ≡ call_of act t desk i
+  pub done-with : (w : Result ⊤ Refusal) (t' : List ℕ) → w ≡ first_of (call_checks act desk (usable desk i t) (slot_of t i)) → w ≡ Ok tt → t' ≡ stored act desk i t → outcome (Ok tt) t' ≡ call_of act t desk i
   unfolding call_of finished
   done-with w t' e f t-is = rw (← e, f, t-is)
 

@@ -1,15 +1,12 @@
 -- What a desk's call answers, and what it leaves of the table, as one value of its input. Definitions only.
-use Rattle.std.specs.Prelude.{ℕ, suc, Bool, not, ◌&&◌, List, [], ◌∷◌, leb, ltb, eqb, length, set, replicate}
+use Rattle.std.specs.Prelude.{ℕ, suc, Bool, not, ◌&&◌, List, [], ◌∷◌, leb, ltb, eqb, length, set, replicate, Result, Ok, Err, ⊤}
 use Rattle.std.proofs.lemmas.List.Edits.{sets}
 use Rattle.words.specs.Words.{word_bytes}
 use Rattle.tables.specs.declared.Refusal.TheVariants as refusal
-use Rattle.tables.specs.declared.Checked.{Checked}
-use Rattle.tables.specs.declared.Checked.TheVariants.{Fine, Bad}
+use Rattle.tables.specs.declared.Refusal.{Refusal}
 use Rattle.tables.specs.Refusal.{Check, ◌when◌, first_of}
 use Rattle.tables.specs.Set.{good_record}
 use Rattle.desks.specs.Table.{table_width, set_place, owner_place, count_place, Slot, slot_of, a_desk}
-use Rattle.desks.specs.declared.Told.{Told}
-use Rattle.desks.specs.declared.Told.TheVariants.{Done, Refused}
 
 -- what a desk may call: claim a free slot, write a set record into one of its own, give one of its own back
 pub data Act : Type 0 where
@@ -67,17 +64,17 @@ stored Release desk i t = set t (owner_place i) 0
 
 -- an answer, and the whole table after it
 pub record Outcome : Type 0 where
-  pub answer : Told
+  pub answer : Result ⊤ Refusal
   pub table : List ℕ
 
 -- these two, given one by one
-abbrev pub outcome : Told → List ℕ → Outcome
+abbrev pub outcome : Result ⊤ Refusal → List ℕ → Outcome
 outcome a t = record { answer = a; table = t }
 
 -- a refusal leaves the table as it was; otherwise it is the new one
-unfoldable pub finished : Checked → List ℕ → List ℕ → Outcome
-finished (Bad r) t new = outcome (Refused r) t
-finished Fine t new = outcome Done new
+unfoldable pub finished : Result ⊤ Refusal → List ℕ → List ℕ → Outcome
+finished (Err r) t new = outcome (Err r) t
+finished (Ok _) t new = outcome (Ok tt) new
 
 -- the whole of a call
 unfoldable pub call_of : Act → List ℕ → ℕ → ℕ → Outcome

@@ -2,7 +2,7 @@
 use Rattle.std.specs.Prelude.{ℕ, ◌+◌, ◌*◌, ◌<◌, Bool, ◌&&◌, ◌||◌, List, ◌≡◌, ltb, eqb, length, get_or, take, drop}
 use Rattle.words.specs.Words.{word_from}
 use Rattle.tables.specs.declared.Set.{Set}
-use Rattle.tables.specs.Refusal.{read_set_of}
+use Rattle.tables.specs.Refusal.{read_or_blank}
 
 -- how many bytes a table has
 abbrev pub table_width : ℕ
@@ -41,7 +41,7 @@ pub record At (t : List ℕ) (i : ℕ) : Type 0 where
 
 -- the set found in a slot: that of its record, and the set of zeros, which is not good, where the record is bad
 abbrev pub set_in : Slot → Set
-set_in s = (read_set_of s.bytes).set
+set_in s = read_or_blank s.bytes
 
 -- one of the two desks
 abbrev pub a_desk : ℕ → Bool

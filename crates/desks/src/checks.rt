@@ -6,7 +6,7 @@ ghost use Rattle.desks.specs.Table.{At, slot_of};
 ghost use Rattle.desks.specs.Desks.{usable, count_check, call_checks, Claim, Write, Release};
 
 use crate::table::{count_of, owner_of};
-use tables::{Checked, Refusal};
+use tables::Refusal;
 
 // Whether the table is 4,264 bytes long, the desk 1 or 2, and the slot one of the eight.
 fn is_usable(t: &[u8], desk: usize, slot: usize) -> bool
@@ -37,52 +37,47 @@ fn is_full(t: &[u8], slot: usize) -> bool
 fn is_good_record(set: &[u8]) -> bool
     ensures { result ≡ good_record set.now }
 {
-    let read = tables::read_set(set);
-    let answer = read.answer;
-    match answer {
-        Checked::Fine => true,
-        Checked::Bad(_) => false,
-    }
+    tables::read_set(set).is_ok()
 }
 
 // A claim's checks: the first that holds.
-pub fn claim(t: &[u8], desk: usize, slot: usize) -> Checked
+pub fn claim(t: &[u8], desk: usize, slot: usize) -> Result<(), Refusal>
     ensures { result ≡ first_of (call_checks Claim desk (usable desk slot t.now) (slot_of t.now slot)) }
 {
     if !is_owned(t, desk, slot, 0) {
-        return Checked::Bad(Refusal::NotYours);
+        return Err(Refusal::NotYours);
     }
     if is_full(t, slot) {
-        return Checked::Bad(Refusal::Count);
+        return Err(Refusal::Count);
     }
-    Checked::Fine
+    Ok(())
 }
 
 // A write's.
-pub fn write(t: &[u8], desk: usize, slot: usize, set: &[u8]) -> Checked
+pub fn write(t: &[u8], desk: usize, slot: usize, set: &[u8]) -> Result<(), Refusal>
     ensures { result ≡ first_of (call_checks (Write set.now) desk (usable desk slot t.now) (slot_of t.now slot)) }
 {
     let mine = is_owned(t, desk, slot, desk);
     if !mine {
-        return Checked::Bad(Refusal::NotYours);
+        return Err(Refusal::NotYours);
     }
     let full = is_full(t, slot);
     let good = is_good_record(set);
     if full {
-        return Checked::Bad(Refusal::Count);
+        return Err(Refusal::Count);
     }
     if !good {
-        return Checked::Bad(Refusal::BadSet);
+        return Err(Refusal::BadSet);
     }
-    Checked::Fine
+    Ok(())
 }
 
 // A release's.
-pub fn release(t: &[u8], desk: usize, slot: usize) -> Checked
+pub fn release(t: &[u8], desk: usize, slot: usize) -> Result<(), Refusal>
     ensures { result ≡ first_of (call_checks Release desk (usable desk slot t.now) (slot_of t.now slot)) }
 {
     if !is_owned(t, desk, slot, desk) {
-        return Checked::Bad(Refusal::NotYours);
+        return Err(Refusal::NotYours);
     }
-    Checked::Fine
+    Ok(())
 }

@@ -34,9 +34,7 @@ pub fn set_in(t: &[u8], slot: usize) -> Set
 {
     let at = slot * 528;
     let end = at + 528;
-    let read = tables::read_set(&t[at..end]);
-    let set = read.set;
-    set
+    tables::read_or_blank(&t[at..end])
 }
 
 // Whether detection may be run from the slot.

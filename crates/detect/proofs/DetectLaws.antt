@@ -1,4 +1,5 @@
 -- Laws of detection's checks, and of what it leaves.
+use Rattle.std.specs.Prelude.{Ok}
 use Prim.Native.Nat.{ℕ, ◌*◌, ◌≤◌}
 use native.Mathlib.Nat.{zero-add}
 use mathlib.Core.Bool.{not}
@@ -9,7 +10,6 @@ use borrow.Author.Tests.{ltb-false, eqb-true, not-false}
 use Rattle.float.proofs.Bools.{neither}
 use Rattle.tables.specs.declared.Set.{Set}
 use Rattle.tables.specs.declared.Thresholds.{Thresholds}
-use Rattle.tables.specs.declared.Checked.TheVariants.{Fine}
 use Rattle.tables.specs.Refusal.{first_of}
 use Rattle.tables.proofs.RefusalLaws.{unless-fine}
 use Rattle.tables.proofs.ThresholdsLaws.{Numbers, passed_numbers}
@@ -19,7 +19,6 @@ use Rattle.record.specs.Layout.{Laid}
 use Rattle.detect.specs.Due.{due}
 use Rattle.checks.specs.Checks.{detect_checks}
 use Rattle.detect.specs.Detect.{outcome, detected}
-use Rattle.detect.specs.declared.Answer.TheVariants.{Found}
 
 -- what no check refuses
 pub record Passed (n0 n1 n2 n3 rows cols octave : ℕ) (th : Thresholds) : Type 0 where
@@ -27,7 +26,7 @@ pub record Passed (n0 n1 n2 n3 rows cols octave : ℕ) (th : Thresholds) : Type 
   pub octave-most : octave ≤ 5
   pub numbers : Numbers th
 
-pub checks_passed : (n0 n1 n2 n3 rows cols octave : ℕ) (th : Thresholds) (s : Set) → first_of (detect_checks n0 n1 n2 n3 rows cols octave th s) ≡ Fine
+pub checks_passed : (n0 n1 n2 n3 rows cols octave : ℕ) (th : Thresholds) (s : Set) → first_of (detect_checks n0 n1 n2 n3 rows cols octave th s) ≡ Ok tt
     → Passed n0 n1 n2 n3 rows cols octave th
 unfolding detect_checks first_of
 checks_passed n0 n1 n2 n3 rows cols octave th s h =
@@ -53,6 +52,6 @@ checks_passed n0 n1 n2 n3 rows cols octave th s h =
     }
 
 -- the whole list laid from the buffer's start, and its length, are what a call that no check refuses leaves and answers
-pub found-laid : {out out' : List ℕ} {n : ℕ} (m : Maps) → Laid out out' 0 n (due m) → outcome (Found n) out' ≡ detected Fine m out
+pub found-laid : {out out' : List ℕ} {n : ℕ} (m : Maps) → Laid out out' 0 n (due m) → outcome (Ok n) out' ≡ detected (Ok tt) m out
 unfolding detected
 found-laid m p = rw (p.count, zero-add, p.bytes, lay-laid)

@@ -1,4 +1,5 @@
 -- The due list by what the pixels list, and how long it can be.
+use Rattle.std.specs.Prelude.{None}
 use Prim.Native.Nat.{ℕ, zero, suc, ◌+◌, ◌-◌, ◌*◌, ◌≤◌}
 use native.Mathlib.Omega.{arith}
 use mathlib.Core.Bool.{Bool}
@@ -6,7 +7,6 @@ use mathlib.Core.Path.{◌≡◌, refl, ◌∙◌}
 use mathlib.Core.List.{[]}
 use lib.ListN.{length, length-append}
 use Rattle.pixel.specs.Listed.{both_listed}
-use Rattle.pixel.specs.declared.Verdict.TheVariants.{Nothing}
 use Rattle.pixel.proofs.ListedLaws.{both_short, both_nothing}
 use Rattle.samples.specs.Level.{Maps, nine_at}
 use Rattle.sweep.specs.Ruled.{verdict_at}
@@ -18,7 +18,7 @@ unfolding pixel_due judge_of both_listed
 pixel_both m row col = refl
 
 -- one on which both verdicts are nothing
-pub nothing-listed : (m : Maps) (row col : ℕ) → ((is_max : Bool) → verdict_at m row col is_max ≡ Nothing) → pixel_due m row col ≡ []
+pub nothing-listed : (m : Maps) (row col : ℕ) → ((is_max : Bool) → verdict_at m row col is_max ≡ None) → pixel_due m row col ≡ []
 nothing-listed m row col h = pixel_both m row col ∙ both_nothing m.set m.thresholds m.frame (nine_at m row col) row col h
 
 -- ---- how long the due list can be

@@ -1,13 +1,12 @@
 -- The list that is due for four levels. Definitions only.
-use Rattle.std.specs.Prelude.{ℕ, zero, suc, ◌+◌, ◌-◌, Bool, true, false, List, [], ◌++◌}
+use Rattle.std.specs.Prelude.{ℕ, zero, suc, ◌+◌, ◌-◌, Bool, true, false, List, [], ◌++◌, Option}
 use Rattle.record.specs.declared.Record.{Record}
-use Rattle.pixel.specs.declared.Verdict.{Verdict}
 use Rattle.pixel.specs.Verdict.{verdict_of}
 use Rattle.pixel.specs.Listed.{listed}
 use Rattle.samples.specs.Level.{Maps, nine_at}
 
 -- the verdict on a pixel of the map at one polarity
-unfoldable pub judge_of : Maps → ℕ → ℕ → Bool → Verdict
+unfoldable pub judge_of : Maps → ℕ → ℕ → Bool → Option Record
 judge_of m row col is_max = verdict_of m.set m.thresholds m.frame (nine_at m row col) row col is_max
 
 -- what one pixel lists: the minimum before the maximum

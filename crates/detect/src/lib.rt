@@ -1,20 +1,16 @@
 // Detection: the spots of four levels.
 #![tactic(auto)]
 
-mod candidates; // candidates.rt: the loops over the pixels
+mod candidates; // candidates.rt: the records laid into a buffer
+pub mod walk; // walk.rt: the walk over the judged pixels
 
 ghost use Rattle.std.specs.Prelude.{◌≡◌};
 ghost use Rattle.detect.specs.Detect.{outcome, detect_of};
 
+use grid::Levels;
 use pixel::Frame;
-use tables::{Checked, Refusal, Set, Thresholds};
-
-// What detection answers: how many spots it found, or why it refused.
-#[derive(Clone, Copy)]
-pub enum Answer {
-    Found(usize),
-    Refused(Refusal),
-}
+use samples::map::Map;
+use tables::{Refusal, Set, Thresholds};
 
 // Lists the spots of four levels, given by columns, in the buffer out.
 pub fn detect<'a>(
@@ -28,11 +24,11 @@ pub fn detect<'a>(
     l2: &'a [f32],
     l3: &'a [f32],
     out: &mut [u8],
-) -> Answer
+) -> Result<usize, Refusal>
     ensures { outcome result out.new
         ≡ detect_of set thresholds rows cols octave l0.now l1.now l2.now l3.now out.old }
 {
-    let check = checks::checked(
+    checks::checked(
         l0.len(),
         l1.len(),
         l2.len(),
@@ -42,16 +38,16 @@ pub fn detect<'a>(
         octave,
         thresholds,
         set,
-    );
-    match check {
-        Checked::Bad(why) => Answer::Refused(why),
-        Checked::Fine => {
-            let f = Frame {
-                rows: rows,
-                cols: cols,
-                octave: octave as u8,
-            };
-            Answer::Found(candidates::rows_spots(l0, l1, l2, l3, f, set, thresholds, out))
-        }
-    }
+    )?;
+    let map = Map {
+        levels: Levels { l0, l1, l2, l3 },
+        frame: Frame {
+            rows,
+            cols,
+            octave: octave as u8,
+        },
+        set,
+        thresholds,
+    };
+    Ok(candidates::rows_spots(&map, out))
 }

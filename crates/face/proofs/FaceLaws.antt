@@ -9,11 +9,10 @@ use Rattle.tables.proofs.SetLaws.{good-record_read, bad-record-refused}
 use Rattle.face.specs.Face.{check_face}
 
 -- the check of a record answers 0 for a good one
-pub good-record_zero : (b : List ℕ) → good_record b ≡ true → check_face (read_set_of b).answer ≡ 0
-unfolding check_face
+pub good-record_zero : (b : List ℕ) → good_record b ≡ true → check_face (read_set_of b) ≡ 0
 good-record_zero b e = rw (good-record_read b e)
 
 -- and 4 for any other
-pub bad-record_four : (b : List ℕ) → good_record b ≡ false → check_face (read_set_of b).answer ≡ 4
-unfolding check_face refused_set number
+pub bad-record_four : (b : List ℕ) → good_record b ≡ false → check_face (read_set_of b) ≡ 4
+unfolding refused_set number
 bad-record_four b e = rw (bad-record-refused b e)

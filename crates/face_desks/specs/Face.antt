@@ -1,18 +1,15 @@
 -- What the desks' face answers, and what it leaves of the table and in the buffer, as one value of its input. Definitions only.
-use Rattle.std.specs.Prelude.{ℕ, List, Float}
+use Rattle.std.specs.Prelude.{ℕ, List, Float, Result, ⊤}
 use Rattle.tables.specs.declared.Thresholds.{Thresholds}
-use Rattle.tables.specs.Refusal.{number}
+use Rattle.tables.specs.declared.Refusal.{Refusal}
 use Rattle.desks.specs.Desks.{Act, Outcome, call_of}
-use Rattle.desks.specs.declared.Told.{Told}
-use Rattle.desks.specs.declared.Told.TheVariants.{Done, Refused}
 use Rattle.desk_run.specs.Run.{run_of}
-use Rattle.face.specs.Face.{Left}
+use Rattle.face.specs.Face.{Left, answer_number}
 use Rattle.face_detect.specs.Face.{left_by}
 
 -- 0, or the refusal's number
-unfoldable pub told_number : Told → ℕ
-told_number Done = 0
-told_number (Refused w) = number w
+abbrev pub told_number : Result ⊤ Refusal → ℕ
+told_number = answer_number
 
 -- what a call of a desk leaves: its number, and the whole table
 pub record TableLeft : Type 0 where

@@ -4,48 +4,41 @@
 ghost use Rattle.std.specs.Prelude.{◌≡◌};
 ghost use Rattle.desks.specs.Desks.{Claim, Write, Release};
 ghost use Rattle.face.specs.Face.{left};
-ghost use Rattle.face_desks.specs.Face.{told_number, table_left, call_face, run_face};
+ghost use Rattle.face_desks.specs.Face.{table_left, call_face, run_face};
 
-use desks::Told;
-use face_detect::{number_of, value_of};
+use face::{number_of, value_of};
 use tables::Thresholds;
 
-// The number of an answer: 0, or that of the refusal.
-fn told_number(told: Told) -> u32
-    ensures { result ≡ told_number told }
-{
-    match told {
-        Told::Done => 0,
-        Told::Refused(why) => tables::refusals::number_of(why),
-    }
-}
-
 // Claims a free slot for a desk. Answers 0, or the refusal's number, with the table as it was.
+// Stays: C takes the answer as a number.
 pub fn claim(table: &mut [u8], desk: usize, slot: usize) -> u32
     ensures { table_left result table.new ≡ call_face Claim table.old desk slot }
 {
     let told = desks::claim(table, desk, slot);
-    told_number(told)
+    number_of(&told)
 }
 
 // Writes a set record into a slot of the desk's own. Answers as claim does.
+// Stays: C takes the answer as a number.
 pub fn write(table: &mut [u8], desk: usize, slot: usize, set: &[u8]) -> u32
     ensures { table_left result table.new ≡ call_face (Write set.now) table.old desk slot }
 {
     let told = desks::write(table, desk, slot, set);
-    told_number(told)
+    number_of(&told)
 }
 
 // Gives a slot of the desk's own back. Answers as claim does.
+// Stays: C takes the answer as a number.
 pub fn release(table: &mut [u8], desk: usize, slot: usize) -> u32
     ensures { table_left result table.new ≡ call_face Release table.old desk slot }
 {
     let told = desks::release(table, desk, slot);
-    told_number(told)
+    number_of(&told)
 }
 
 // Lists the spots of four levels in the buffer out, under the set that stands in a slot. Answers 0, with the count in value, or the refusal's number, with
 // the value that goes with it in value.
+// Stays: C takes the answer as a number and its value through a pointer, and passes each level as a pointer.
 pub fn run<'a>(
     table: &'a [u8],
     slot: usize,
@@ -68,5 +61,5 @@ pub fn run<'a>(
         table, slot, thresholds, rows, cols, octave, l0, l1, l2, l3, out,
     );
     *value = value_of(answer);
-    number_of(answer)
+    number_of(&answer)
 }

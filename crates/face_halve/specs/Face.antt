@@ -1,24 +1,22 @@
 -- What downsample's face answers, and what it leaves in the buffer and the two lent sides, as one value of its input. Definitions only.
-use Rattle.std.specs.Prelude.{ℕ, List, Float}
-use Rattle.tables.specs.Refusal.{number}
+use Rattle.std.specs.Prelude.{ℕ, List, Float, Result, Ok, Err}
+use Rattle.tables.specs.declared.Refusal.{Refusal}
 use Rattle.pyramid.specs.Pyramid as pyramid
-use Rattle.pyramid.specs.declared.Halved.{Halved}
-use Rattle.pyramid.specs.declared.Halved.TheVariants as halved
+use Rattle.face.specs.Face.{answer_number}
 
 -- 0, or the refusal's number
-unfoldable pub halved_number : Halved → ℕ
-halved_number (halved.Sides rows cols) = 0
-halved_number (halved.Refused w) = number w
+abbrev pub halved_number : Result (ℕ × ℕ) Refusal → ℕ
+halved_number = answer_number
 
 -- the new rows; a refusal leaves what was there before
-unfoldable pub rows_after : Halved → ℕ → ℕ
-rows_after (halved.Sides rows cols) before = rows
-rows_after (halved.Refused w) before = before
+unfoldable pub rows_after : Result (ℕ × ℕ) Refusal → ℕ → ℕ
+rows_after (Ok (rows, cols)) before = rows
+rows_after (Err w) before = before
 
 -- the new cols; a refusal leaves what was there before
-unfoldable pub cols_after : Halved → ℕ → ℕ
-cols_after (halved.Sides rows cols) before = cols
-cols_after (halved.Refused w) before = before
+unfoldable pub cols_after : Result (ℕ × ℕ) Refusal → ℕ → ℕ
+cols_after (Ok (rows, cols)) before = cols
+cols_after (Err w) before = before
 
 -- what a call of downsample leaves: its number, the two lent sides, and the whole buffer
 pub record HalvedLeft : Type 0 where

@@ -5,8 +5,6 @@ ghost use Rattle.std.specs.Prelude.{◌≡◌};
 ghost use Rattle.pyramid.specs.Pyramid.{octave_count_of};
 ghost use Rattle.face_halve.specs.Face.{halved_left, downsample_face};
 
-use pyramid::Halved;
-
 // How many octaves a map of these sides has.
 pub fn octave_count(rows: usize, cols: usize) -> u32
     ensures { result ≡ octave_count_of rows cols }
@@ -16,6 +14,7 @@ pub fn octave_count(rows: usize, cols: usize) -> u32
 
 // Halves a level into the buffer out. Answers 0, with the new sides in halfrows and halfcols, or the refusal's number, with both neither read nor
 // written.
+// Stays: C takes the answer as a number, and the two sides through pointers.
 pub fn downsample(
     rows: usize,
     cols: usize,
@@ -28,12 +27,9 @@ pub fn downsample(
         ≡ downsample_face rows cols level.now out.old halfrows.old halfcols.old }
 {
     let answer = pyramid::downsample(rows, cols, level, out);
-    match answer {
-        Halved::Sides(newrows, newcols) => {
-            *halfrows = newrows as u64;
-            *halfcols = newcols as u64;
-            0
-        }
-        Halved::Refused(why) => tables::refusals::number_of(why),
+    if let Ok((newrows, newcols)) = answer {
+        *halfrows = newrows as u64;
+        *halfcols = newcols as u64;
     }
+    face::number_of(&answer)
 }

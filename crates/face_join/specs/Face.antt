@@ -1,15 +1,13 @@
 -- What the join's face answers, and what it leaves in the buffer, as one value of its input. Definitions only.
-use Rattle.std.specs.Prelude.{ℕ, List}
-use Rattle.tables.specs.Refusal.{number, value, read_set_of}
+use Rattle.std.specs.Prelude.{ℕ, List, Result}
+use Rattle.tables.specs.Refusal.{read_or_blank}
+use Rattle.tables.specs.declared.Refusal.{Refusal}
 use Rattle.join.specs.Join as join
-use Rattle.join.specs.declared.Joined.{Joined}
-use Rattle.join.specs.declared.Joined.TheVariants as joined
-use Rattle.face.specs.Face.{Packed, Left, left}
+use Rattle.face.specs.Face.{Packed, Left, left, answer_packed}
 
 -- 0 and the count, or the refusal's number and the value that goes with it
-unfoldable pub join_packed : Joined → Packed
-join_packed (joined.Count n) = record { number = 0; value = n }
-join_packed (joined.Refused w) = record { number = number w; value = value w }
+abbrev pub join_packed : Result ℕ Refusal → Packed
+join_packed = answer_packed
 
 -- what an outcome of the join leaves
 abbrev pub join_left : join.Outcome → Left
@@ -17,8 +15,8 @@ join_left o = left (join_packed o.answer).number (join_packed o.answer).value o.
 
 -- the join under the set that the record holds
 unfoldable pub join_face : List ℕ → ℕ → ℕ → List ℕ → List ℕ → Left
-join_face set rows cols list out = join_left (join.join_of (read_set_of set).set rows cols list out)
+join_face set rows cols list out = join_left (join.join_of (read_or_blank set) rows cols list out)
 
 -- the join of an old list under it
 unfoldable pub join_old_face : List ℕ → ℕ → ℕ → List ℕ → List ℕ → Left
-join_old_face set rows cols list out = join_left (join.join_old_of (read_set_of set).set rows cols list out)
+join_old_face set rows cols list out = join_left (join.join_old_of (read_or_blank set) rows cols list out)

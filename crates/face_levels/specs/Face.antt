@@ -1,14 +1,13 @@
 -- What the levels' face answers, and what it leaves in the four buffers, as one value of its input. Definitions only.
-use Rattle.std.specs.Prelude.{ℕ, List, Float}
-use Rattle.tables.specs.Refusal.{number, read_set_of}
+use Rattle.std.specs.Prelude.{ℕ, List, Float, Result, ⊤}
+use Rattle.tables.specs.Refusal.{read_or_blank}
+use Rattle.tables.specs.declared.Refusal.{Refusal}
 use Rattle.levels.specs.Levels as levels
-use Rattle.levels.specs.declared.Blurred.{Blurred}
-use Rattle.levels.specs.declared.Blurred.TheVariants as blurred
+use Rattle.face.specs.Face.{answer_number}
 
 -- 0, or the refusal's number
-unfoldable pub blurred_number : Blurred → ℕ
-blurred_number blurred.Made = 0
-blurred_number (blurred.Refused w) = number w
+abbrev pub blurred_number : Result ⊤ Refusal → ℕ
+blurred_number = answer_number
 
 -- what a call of levels leaves: its number, and the four buffers
 pub record LevelsLeft : Type 0 where
@@ -28,4 +27,4 @@ levels_left_by o = levels_left (blurred_number o.answer) o.l0 o.l1 o.l2 o.l3
 
 -- the levels under the set that the record holds
 unfoldable pub levels_face : List ℕ → ℕ → ℕ → ℕ → List Float → List Float → List Float → List Float → List Float → LevelsLeft
-levels_face set rows cols octave raw l0 l1 l2 l3 = levels_left_by (levels.levels_of (read_set_of set).set rows cols octave raw l0 l1 l2 l3)
+levels_face set rows cols octave raw l0 l1 l2 l3 = levels_left_by (levels.levels_of (read_or_blank set) rows cols octave raw l0 l1 l2 l3)

@@ -4,9 +4,8 @@
 ghost use Rattle.std.specs.Prelude.{◌≡◌};
 ghost use Rattle.face_levels.specs.Face.{levels_left, levels_face};
 
-use levels::Blurred;
-
 // Makes the four levels of a raw map at the starts of the buffers l0 to l3, under the set in the record set. Answers 0, or the refusal's number.
+// Stays: C takes the answer as a number, and passes each level as a pointer.
 pub fn levels(
     set: &[u8],
     rows: usize,
@@ -22,11 +21,7 @@ pub fn levels(
         ≡ levels_face set.now rows cols octave raw.now
         l0.old l1.old l2.old l3.old }
 {
-    let read = tables::read_set(set);
-    let tables = read.set;
+    let tables = tables::read_or_blank(set);
     let answer = levels::levels(tables, rows, cols, octave, raw, l0, l1, l2, l3);
-    match answer {
-        Blurred::Made => 0,
-        Blurred::Refused(why) => tables::refusals::number_of(why),
-    }
+    face::number_of(&answer)
 }

@@ -5,10 +5,10 @@ ghost use Rattle.std.specs.Prelude.{◌≡◌};
 ghost use Rattle.face_partner.specs.Face.{told, found_told, reply_told, accept_face};
 
 use follow::Finding;
-use partner::Reply;
-use tables::Thresholds;
+use tables::{Refusal, Thresholds};
 
 // A call's number, what was found, and the value beside it.
+// Stays: C takes the three as numbers.
 #[derive(Clone, Copy)]
 pub struct Told {
     pub number: u32,
@@ -45,13 +45,13 @@ fn found_told(found: Finding) -> Told
 }
 
 // A reply as numbers.
-fn reply_told(reply: Reply) -> Told
+fn reply_told(reply: Result<Finding, Refusal>) -> Told
     ensures { result ≡ reply_told reply }
 {
     match reply {
-        Reply::Found(found) => found_told(found),
-        Reply::Refused(why) => Told {
-            number: tables::refusals::number_of(why),
+        Ok(found) => found_told(found),
+        Err(why) => Told {
+            number: u32::from(why),
             finding: 0,
             value: tables::refusals::value_of(why),
         },
@@ -60,6 +60,7 @@ fn reply_told(reply: Reply) -> Told
 
 // Whether the list is the one that is due for the four levels, under the set in the record set. Answers 0, with what was found in finding and the index of the
 // first record that differs in value; or the refusal's number, with 0 in finding and the value that goes with it in value.
+// Stays: C takes the answer as a number and its value through a pointer, and passes each level as a pointer.
 pub fn accept<'a>(
     set: &'a [u8],
     thresholds: Thresholds,
@@ -78,8 +79,7 @@ pub fn accept<'a>(
         ≡ accept_face set.now thresholds rows cols octave
         l0.now l1.now l2.now l3.now list.now }
 {
-    let read = tables::read_set(set);
-    let tables = read.set;
+    let tables = tables::read_or_blank(set);
     let reply = partner::accept(tables, thresholds, rows, cols, octave, l0, l1, l2, l3, list);
     let told = reply_told(reply);
     *finding = told.finding;

@@ -8,29 +8,30 @@ use scene::Answer;
 use tables::{Refusal, Thresholds};
 
 // The number of an answer: 0, 6 where the output is full, or that of the refusal.
-fn number_of(answer: Answer) -> u32
+fn number_of(answer: Result<Answer, Refusal>) -> u32
     ensures { result ≡ (scene_packed answer).number }
 {
     match answer {
-        Answer::Found(n) => 0,
-        Answer::Full(n) => tables::refusals::number_of(Refusal::Room),
-        Answer::Refused(why) => tables::refusals::number_of(why),
+        Ok(Answer::Found(_)) => 0,
+        Ok(Answer::Full(_)) => u32::from(Refusal::Room),
+        Err(why) => u32::from(why),
     }
 }
 
 // Its value: the count, the whole tiles written, or the value that goes with the refusal.
-fn value_of(answer: Answer) -> u64
+fn value_of(answer: Result<Answer, Refusal>) -> u64
     ensures { result ≡ (scene_packed answer).value }
 {
     match answer {
-        Answer::Found(n) => n as u64,
-        Answer::Full(n) => n as u64,
-        Answer::Refused(why) => tables::refusals::value_of(why),
+        Ok(Answer::Found(n)) => n as u64,
+        Ok(Answer::Full(n)) => n as u64,
+        Err(why) => tables::refusals::value_of(why),
     }
 }
 
 // Lists the spots of a scene in the buffer out, under the set in the record set; each tile is copied into the slices t0 to t3. Answers 0, with the count in
 // value, 6 with the whole tiles written in value, or the refusal's number, with the value that goes with it in value.
+// Stays: C takes the answer as a number and its value through a pointer, and passes each level as a pointer.
 pub fn scene<'a>(
     set: &'a [u8],
     thresholds: Thresholds,
@@ -52,8 +53,7 @@ pub fn scene<'a>(
         ≡ scene_face set.now thresholds rows cols octave l0.now l1.now l2.now l3.now
         t0.old t1.old t2.old t3.old out.old }
 {
-    let read = tables::read_set(set);
-    let tables = read.set;
+    let tables = tables::read_or_blank(set);
     let answer = scene::scene(
         tables, thresholds, rows, cols, octave, l0, l1, l2, l3, t0, t1, t2, t3, out,
     );

@@ -1,6 +1,8 @@
 -- When a call is refused, and by what: the first of its checks that holds, by their places. Assumes nothing.
+use Rattle.std.specs.Prelude.{Result, Ok, Err, ⊤}
+use Rattle.std.specs.Result.{result_and}
 use Prim.Native.Nat.{ℕ, ◌*◌, ◌≤◌}
-use mathlib.Core.Path.{◌≡◌, sym, ◌∙◌}
+use mathlib.Core.Path.{◌≡◌, sym, ap, ◌∙◌}
 use mathlib.Core.List.{List}
 use mathlib.Core.Logic.{◌↔◌}
 use lib.Dec.{leb}
@@ -9,12 +11,9 @@ use borrow.Author.Tests.{le-ltb}
 use Rattle.tables.specs.declared.Set.{Set}
 use Rattle.tables.specs.declared.Thresholds.{Thresholds}
 use Rattle.tables.specs.declared.Refusal.{Refusal}
-use Rattle.tables.specs.declared.Checked.{Checked}
-use Rattle.tables.specs.declared.Checked.TheVariants.{Fine, Bad}
 use Rattle.tables.specs.Refusal.{first_of, First}
 use Rattle.tables.proofs.RefusalLaws.{first-refused, refused-first}
 use Rattle.ring.specs.declared.State.{State}
-use Rattle.feed.specs.declared.Answer.TheVariants.{Taken, Refused}
 use Rattle.samples.specs.Four.{Four}
 use Rattle.ring.specs.Ring.{judged_spots}
 use Rattle.feed.specs.Feed.{start_checks, start_of, past, column_checks, fed_by, column_of}
@@ -24,24 +23,28 @@ use Rattle.feed.proofs.FeedLaws.{start-answer}
 -- ---- start
 
 module _ (set : Set) (th : Thresholds) (rows cols octave n0 n1 n2 n3 : ℕ) where
+  refused_by : (w : Result State Refusal) (r : Refusal) → ◌≡◌ {A = Result ⊤ Refusal} (result_and w (Ok tt)) (Err r) → w ≡ Err r
+  refused_by (Err q) r e = let same : q ≡ r = cc in rw same
+  refused_by (Ok s) r e = cc
+
   -- Start refuses with r exactly when of its checks, in the order 1, 3, 8, 4, 6, that one is the first that holds.
-  pub start_refuses : (r : Refusal) → ((start_of set th rows cols octave n0 n1 n2 n3).answer ≡ Bad r) ↔ First (start_checks set th rows cols octave n0 n1 n2 n3) r
+  pub start_refuses : (r : Refusal) → (start_of set th rows cols octave n0 n1 n2 n3 ≡ Err r) ↔ First (start_checks set th rows cols octave n0 n1 n2 n3) r
   start_refuses r =
       let is = start-answer set th rows cols octave n0 n1 n2 n3 in (
-        λ e. first-refused (start_checks set th rows cols octave n0 n1 n2 n3) r (sym is ∙ e),
-        λ f. is ∙ refused-first (start_checks set th rows cols octave n0 n1 n2 n3) r f,
+        λ e. first-refused (start_checks set th rows cols octave n0 n1 n2 n3) r (sym is ∙ ap (λ (x : Result State Refusal). result_and x (Ok tt)) e),
+        λ f. refused_by _ r (is ∙ refused-first (start_checks set th rows cols octave n0 n1 n2 n3) r f),
       )
 
 -- ---- a column
 
 module _ (s : State) (given ring : Four) (out : List ℕ) where
-  by_answer : (w : Checked) (r : Refusal) → (fed_by w s given ring out).answer ≡ Refused r → w ≡ Bad r
+  by_answer : (w : Result ⊤ Refusal) (r : Refusal) → (fed_by w s given ring out).answer ≡ Err r → w ≡ Err r
   unfolding fed_by
-  by_answer (Bad q) r e = let same : q ≡ r = cc in rw same
-  by_answer Fine r e = cc
+  by_answer (Err q) r e = let same : q ≡ r = cc in rw same
+  by_answer (Ok _) r e = cc
 
   -- A column is refused with r exactly when of its checks, in the order 9, 2, 6 for the ring, 6 for the output, that one is the first that holds.
-  pub column_refuses : (r : Refusal) → ((column_of s given ring out).answer ≡ Refused r) ↔ First (column_checks s given ring out) r
+  pub column_refuses : (r : Refusal) → ((column_of s given ring out).answer ≡ Err r) ↔ First (column_checks s given ring out) r
   unfolding column_of fed_by
   column_refuses r = (
     λ e. first-refused (column_checks s given ring out) r (by_answer (first_of (column_checks s given ring out)) r e),
@@ -49,7 +52,7 @@ module _ (s : State) (given ring : Four) (out : List ℕ) where
   )
 
   -- Otherwise it is taken, and its count answered: at most two for each row.
-  pub column_takes : first_of (column_checks s given ring out) ≡ Fine → ((column_of s given ring out).answer ≡ Taken (length (judged_spots s ring given))) × (length (judged_spots s ring given) ≤ 2 * s.rows)
+  pub column_takes : first_of (column_checks s given ring out) ≡ Ok tt → ((column_of s given ring out).answer ≡ Ok (length (judged_spots s ring given))) × (length (judged_spots s ring given) ≤ 2 * s.rows)
   unfolding column_of fed_by
   column_takes e = (rw e, judged-short s ring given)
 

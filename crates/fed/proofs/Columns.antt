@@ -1,4 +1,5 @@
 -- A map's spots by columns: what stands among them, in which order, and that put in order they are the map's list. Assumes nothing.
+use Rattle.std.specs.Prelude.{Option, Some, None}
 use Prim.Native.Nat.{ℕ, zero, suc, ◌+◌, ◌-◌, ◌*◌, ◌%◌, ◌≤◌, ◌<◌}
 use native.Mathlib.Omega.{arith}
 use native.Mathlib.Nat.{eq-or-lt_of_le, eq-zero-or-pos}
@@ -9,8 +10,6 @@ use mathlib.Core.List.{List}
 use lib.Arith.{digits_lt, digits_mod}
 use lib.Ieee.{Float}
 use Rattle.record.specs.declared.Record.{Record}
-use Rattle.pixel.specs.declared.Verdict.{Verdict}
-use Rattle.pixel.specs.declared.Verdict.TheVariants.{Listed, Nothing}
 use Rattle.pixel.specs.Verdict.{polarity_of}
 use Rattle.tables.specs.declared.Set.{Set}
 use Rattle.tables.specs.declared.Thresholds.{Thresholds}
@@ -29,13 +28,13 @@ use Rattle.fed.proofs.Sorting.{Apart, not_both, order_only, order_all, order_ris
 
 -- ---- what a verdict lists
 
-verdict_in : (v : Verdict) (r : Record) → In r (listed v) → v ≡ Listed r
+verdict_in : (v : Option Record) (r : Record) → In r (listed v) → v ≡ Some r
 verdict_in v r h = let s = in_stands (listed v) r h in verdict_only v s.place r s.there
 
-verdict_pairs : (R : Record → Record → Type 0) (v : Verdict) → Pairs R (listed v)
+verdict_pairs : (R : Record → Record → Type 0) (v : Option Record) → Pairs R (listed v)
 unfolding listed Pairs In
-verdict_pairs R (Listed s) = (λ t h. absurd h, refl)
-verdict_pairs R Nothing = refl
+verdict_pairs R (Some s) = (λ t h. absurd h, refl)
+verdict_pairs R None = refl
 
 module _ (m : Maps) where
   -- ---- one pixel
@@ -43,7 +42,7 @@ module _ (m : Maps) where
   pixel_in : (row col : ℕ) (r : Record) → In r (pixel_due m row col) → OfPixel m row col r
   pixel_in row col r h = pixel_only m row col r (in_stands (pixel_due m row col) r h)
 
-  pixel_every : (row col : ℕ) (is_max : Bool) (r : Record) → judge_of m row col is_max ≡ Listed r → In r (pixel_due m row col)
+  pixel_every : (row col : ℕ) (is_max : Bool) (r : Record) → judge_of m row col is_max ≡ Some r → In r (pixel_due m row col)
   pixel_every row col is_max r h = stands_in (pixel_all m row col is_max r h)
 
   -- the remainder of its key by cols is its column
@@ -78,7 +77,7 @@ module _ (m : Maps) where
       (λ k. record { number = n; below = omega arith; pixel = pixel_in (n + 4) col r k })
       (in_cases r (column_due m col n) (pixel_due m (n + 4) col) h)
 
-  column_all : (col n k : ℕ) (is_max : Bool) (r : Record) → k < n → judge_of m (k + 4) col is_max ≡ Listed r → In r (column_due m col n)
+  column_all : (col n k : ℕ) (is_max : Bool) (r : Record) → k < n → judge_of m (k + 4) col is_max ≡ Some r → In r (column_due m col n)
   unfolding column_due
   column_all col zero k is_max r p h = let z : ⊥ = omega arith in absurd z
   column_all col (suc n) k is_max r p h =

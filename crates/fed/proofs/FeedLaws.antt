@@ -1,4 +1,5 @@
 -- One call: it is refused and leaves all as it was, or it is taken. Assumes nothing.
+use Rattle.std.specs.Prelude.{Result, Ok, Err, ⊤}
 use Prim.Native.Nat.{ℕ, suc, ◌+◌, ◌-◌, ◌*◌, ◌/◌, ◌≤◌, ◌<◌}
 use native.Mathlib.Omega.{arith}
 use mathlib.Core.Path.{◌≡◌, refl, ap, ◌∙◌}
@@ -10,14 +11,11 @@ use lib.ListN.{length, take, get_or}
 use lib.Seq.{take_all}
 use borrow.Author.Tests.{ltb-true, ltb-false, leb-true, leb-false}
 use Rattle.tables.specs.declared.Refusal.{Refusal}
-use Rattle.tables.specs.declared.Checked.{Checked}
-use Rattle.tables.specs.declared.Checked.TheVariants.{Fine, Bad}
 use Rattle.tables.specs.Refusal.{first_of}
 use Rattle.record.specs.declared.Record.{Record}
 use Rattle.record.specs.Layout.{spot_width, bytes_of, laid, written}
 use Rattle.record.proofs.LayoutLaws.{laid-first, laid_keeps}
 use Rattle.ring.specs.declared.State.{State}
-use Rattle.feed.specs.declared.Answer.TheVariants.{Refused}
 use Rattle.samples.specs.Four.{Four}
 use Rattle.ring.specs.Ring.{judges, judged_spots, column_spots}
 use Rattle.feed.specs.Feed.{column_checks, refused, took, fed_by, column_of}
@@ -39,25 +37,25 @@ pub record Takes (s : State) (given ring : Four) (out : List ℕ) : Type 0 where
   pub is : column_of s given ring out ≡ took (judged_spots s ring given) s given ring out
 
 module _ (s : State) (given ring : Four) (out : List ℕ) where
-  by_checks : (w : Checked) → first_of (column_checks s given ring out) ≡ w → Refuses s given ring out ⊎ Takes s given ring out
+  by_checks : (w : Result ⊤ Refusal) → first_of (column_checks s given ring out) ≡ w → Refuses s given ring out ⊎ Takes s given ring out
   unfolding column_of fed_by
-  by_checks (Bad r) e = inl (record { why_not = r; is = rw e })
-  by_checks Fine e = inr (record { checks = passed s given ring out e; is = rw e })
+  by_checks (Err r) e = inl (record { why_not = r; is = rw e })
+  by_checks (Ok _) e = inr (record { checks = passed s given ring out e; is = rw e })
 
   -- a call is one or the other
   pub call_cases : Refuses s given ring out ⊎ Takes s given ring out
   call_cases = by_checks (first_of (column_checks s given ring out)) refl
 
-  refused-only : (w : Refusal) → (column_of s given ring out).answer ≡ Refused w → Refuses s given ring out ⊎ Takes s given ring out → column_of s given ring out ≡ refused w s ring out
+  refused-only : (w : Refusal) → (column_of s given ring out).answer ≡ Err w → Refuses s given ring out ⊎ Takes s given ring out → column_of s given ring out ≡ refused w s ring out
   refused-only w e (inl r) = let q = r.is in let same : r.why_not ≡ w = cc in q ∙ ap (λ (x : Refusal). refused x s ring out) same
   refused-only w e (inr t) = let q = t.is in cc
 
   -- A refusal leaves the state, the ring and the output as they were.
-  pub refusal_keeps : (w : Refusal) → (column_of s given ring out).answer ≡ Refused w → column_of s given ring out ≡ refused w s ring out
+  pub refusal_keeps : (w : Refusal) → (column_of s given ring out).answer ≡ Err w → column_of s given ring out ≡ refused w s ring out
   refusal_keeps w e = refused-only w e call_cases
 
   -- After a refusal any call, the same column with more room too, gives what it would have given at once.
-  pub given_again : (w : Refusal) → (column_of s given ring out).answer ≡ Refused w → (given' : Four) (out' : List ℕ)
+  pub given_again : (w : Refusal) → (column_of s given ring out).answer ≡ Err w → (given' : Four) (out' : List ℕ)
       → column_of (column_of s given ring out).state given' (column_of s given ring out).ring out' ≡ column_of s given' ring out'
   given_again w e given' out' = rw (refusal_keeps w e)
 

@@ -1,4 +1,5 @@
 -- What the customer is owed of a feed: its whole list, what it has listed when it stops, and two feeds of which the second lost pixels. Assumes nothing.
+use Rattle.std.specs.Prelude.{Result, Ok, Err, ⊤}
 use Prim.Native.Nat.{ℕ, ◌+◌, ◌-◌, ◌*◌, ◌≤◌, ◌<◌}
 use native.Mathlib.Omega.{arith}
 use native.Mathlib.Nat.{zero-mul, mul_comm, not-suc-le-zero}
@@ -10,9 +11,8 @@ use lib.ListN.{length}
 use lib.Ieee.{Float}
 use borrow.Author.Tests.{eq-eqb}
 use Rattle.tables.specs.declared.Set.{Set}
+use Rattle.tables.specs.declared.Refusal.{Refusal}
 use Rattle.tables.specs.declared.Thresholds.{Thresholds}
-use Rattle.tables.specs.declared.Checked.{Checked}
-use Rattle.tables.specs.declared.Checked.TheVariants.{Fine, Bad}
 use Rattle.tables.specs.Refusal.{unless, first_of, sides_check, octave_check, thresholds_check, set_check}
 use Rattle.tables.proofs.RefusalLaws.{unless-fine}
 use Rattle.record.specs.declared.Record.{Record}
@@ -27,10 +27,8 @@ use Rattle.demands.specs.TwoMaps.{spared, keep, Lossy}
 use Rattle.demands.proofs.Judge.{judged_admits}
 use Rattle.demands.proofs.TwoMaps.{two_maps}
 use Rattle.ring.specs.declared.State.{State}
-use Rattle.feed.specs.declared.Started.{Started}
 use Rattle.samples.specs.Four.{Four, four_of}
 use Rattle.feed.specs.Feed.{After, after, start_checks, started_by, start_of, opened, column_of}
-use Rattle.feed.specs.declared.Fed.{Fed}
 use Rattle.fed.specs.Held.{map_of, Held}
 use Rattle.fed.specs.Run.{Call, state_after, bytes_after, levels_after, with}
 use Rattle.fed.specs.Order.{columns_due, judged_of, in_order}
@@ -40,15 +38,15 @@ use Rattle.fed.proofs.RunLaws.{FeedsAll, run_bytes, level_follows, level_long}
 
 -- ---- one value for each call
 
--- Two answers of start that the promise allows are equal, with the state beside them.
-pub start-only-one : (set : Set) (th : Thresholds) (rows cols octave n0 n1 n2 n3 : ℕ) (r r' : Started)
+-- Two answers of start that the promise allows are equal, the state that they hold too.
+pub start-only-one : (set : Set) (th : Thresholds) (rows cols octave n0 n1 n2 n3 : ℕ) (r r' : Result State Refusal)
     → r ≡ start_of set th rows cols octave n0 n1 n2 n3 → r' ≡ start_of set th rows cols octave n0 n1 n2 n3 → r ≡ r'
 start-only-one set th rows cols octave n0 n1 n2 n3 r r' p q = p ∙ sym q
 
 -- Two answers of a column that the promise allows are equal, with the state, the ring and the output after them.
-pub column_only-one : (s : State) (given ring : Four) (out : List ℕ) (r r' : Fed) (g g' : Four) (o o' : List ℕ)
-    → after r g o ≡ column_of s given ring out → after r' g' o' ≡ column_of s given ring out → (r.answer ≡ r'.answer) × (r.state ≡ r'.state) × (g ≡ g') × (o ≡ o')
-column_only-one s given ring out r r' g g' o o' p q =
+pub column_only-one : (s : State) (given ring : Four) (out : List ℕ) (r r' : Result ℕ Refusal) (t t' : State) (g g' : Four) (o o' : List ℕ)
+    → after r t g o ≡ column_of s given ring out → after r' t' g' o' ≡ column_of s given ring out → (r ≡ r') × (t ≡ t') × (g ≡ g') × (o ≡ o')
+column_only-one s given ring out r r' t t' g g' o o' p q =
     let e = p ∙ sym q in
     (ap (λ (a : After). a.answer) e, ap (λ (a : After). a.state) e, ap (λ (a : After). a.ring) e, ap (λ (a : After). a.out) e)
 
@@ -169,8 +167,8 @@ module _ (set : Set) (th : Thresholds) (rows cols octave : ℕ) (ring : Four) (c
   }
 
   -- Detection over the same levels passes its checks, and lists them.
-  pub like_detection : (n0 n1 n2 n3 : ℕ) → first_of (start_checks set th rows cols octave n0 n1 n2 n3) ≡ Fine → taken ≡ cols → (out : List ℕ)
-      → detect_of set th rows cols octave levels.l0 levels.l1 levels.l2 levels.l3 out ≡ detected Fine m out
+  pub like_detection : (n0 n1 n2 n3 : ℕ) → first_of (start_checks set th rows cols octave n0 n1 n2 n3) ≡ Ok tt → taken ≡ cols → (out : List ℕ)
+      → detect_of set th rows cols octave levels.l0 levels.l1 levels.l2 levels.l3 out ≡ detected (Ok tt) m out
   unfolding detect_of detect_checks start_checks first_of unless
   like_detection n0 n1 n2 n3 fine done out =
       let a = unless-fine (sides_check rows cols).holds _ _ fine in
@@ -191,14 +189,14 @@ module _ (set : Set) (th : Thresholds) (rows cols octave : ℕ) (ring : Four) (c
       )
 
 -- the state that start answers, where it does not refuse
-pub started : (set : Set) (th : Thresholds) (rows cols octave n0 n1 n2 n3 : ℕ) → (start_of set th rows cols octave n0 n1 n2 n3).answer ≡ Fine
-    → (first_of (start_checks set th rows cols octave n0 n1 n2 n3) ≡ Fine) × ((start_of set th rows cols octave n0 n1 n2 n3).state ≡ opened set th rows cols octave)
+pub started : (set : Set) (th : Thresholds) (rows cols octave n0 n1 n2 n3 : ℕ) (s : State) → start_of set th rows cols octave n0 n1 n2 n3 ≡ Ok s
+    → (first_of (start_checks set th rows cols octave n0 n1 n2 n3) ≡ Ok tt) × (s ≡ opened set th rows cols octave)
 unfolding start_of started_by
-started set th rows cols octave n0 n1 n2 n3 = go (first_of (start_checks set th rows cols octave n0 n1 n2 n3))
+started set th rows cols octave n0 n1 n2 n3 s = go (first_of (start_checks set th rows cols octave n0 n1 n2 n3))
   where
-    go : (w : Checked) → (started_by w set th rows cols octave).answer ≡ Fine → (w ≡ Fine) × ((started_by w set th rows cols octave).state ≡ opened set th rows cols octave)
-    go (Bad r) e = (e, cc)
-    go Fine e = (refl, refl)
+    go : (w : Result ⊤ Refusal) → started_by w set th rows cols octave ≡ Ok s → (w ≡ Ok tt) × (s ≡ opened set th rows cols octave)
+    go (Err r) e = (cc, cc)
+    go (Ok _) e = (refl, cc)
 
 -- ---- two feeds
 

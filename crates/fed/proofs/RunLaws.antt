@@ -1,4 +1,5 @@
 -- A run of calls, refused ones among them: what it handed over are the spots of the judged columns. Assumes nothing.
+use Rattle.std.specs.Prelude.{Ok}
 use Prim.Native.Nat.{ℕ, ◌+◌, ◌-◌, ◌*◌, ◌≤◌}
 use native.Mathlib.Omega.{arith}
 use native.Mathlib.Nat.{add-mul}
@@ -12,7 +13,6 @@ use Rattle.record.specs.declared.Record.{Record}
 use Rattle.record.specs.Layout.{bytes_of}
 use Rattle.grid.specs.Grid.{pixel_at}
 use Rattle.ring.specs.declared.State.{State}
-use Rattle.feed.specs.declared.Answer.TheVariants.{Taken}
 use Rattle.samples.specs.Four.{Four}
 use Rattle.ring.specs.Ring.{judged_spots, stored}
 use Rattle.ring.specs.Lent.{Long}
@@ -34,7 +34,7 @@ bytes-append (r ∷ rs) ss = rw (bytes-append rs ss, append_assoc)
 unfoldable pub Feeds : (Four → List Float) → List Float → State → Four → List Call → Type 0
 Feeds pick l s ring [] = ◌≡◌ {A = ℕ} 0 0
 Feeds pick l s ring (c ∷ cs) =
-    ((n : ℕ) → (leaves s ring c).answer ≡ Taken n → Column l s.rows s.position (pick c.columns)) × Feeds pick l (leaves s ring c).state (leaves s ring c).ring cs
+    ((n : ℕ) → (leaves s ring c).answer ≡ Ok n → Column l s.rows s.position (pick c.columns)) × Feeds pick l (leaves s ring c).state (leaves s ring c).ring cs
 
 -- the same of four levels
 pub record FeedsAll (l : Four) (s : State) (ring : Four) (cs : List Call) : Type 0 where
@@ -44,7 +44,7 @@ pub record FeedsAll (l : Four) (s : State) (ring : Four) (cs : List Call) : Type
   pub l3 : Feeds (λ f. f.l3) l.l3 s ring cs
 
 -- the first call's columns, and the calls after it
-first-given : (l : Four) (s : State) (ring : Four) (c : Call) (cs : List Call) (n : ℕ) → FeedsAll l s ring (c ∷ cs) → (leaves s ring c).answer ≡ Taken n
+first-given : (l : Four) (s : State) (ring : Four) (c : Call) (cs : List Call) (n : ℕ) → FeedsAll l s ring (c ∷ cs) → (leaves s ring c).answer ≡ Ok n
     → Given (map_of s l) s.position c.columns
 unfolding Feeds
 first-given l s ring c cs n f e = record { l0 = f.l0.0 n e; l1 = f.l1.0 n e; l2 = f.l2.0 n e; l3 = f.l3.0 n e }

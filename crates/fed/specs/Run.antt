@@ -1,11 +1,10 @@
 -- A run of calls: each is lent the ring and handed the state that the call before left. Definitions only.
-use Rattle.std.specs.Prelude.{ℕ, ◌*◌, List, [], ◌∷◌, ◌++◌, take, Float}
+use Rattle.std.specs.Prelude.{ℕ, ◌*◌, List, [], ◌∷◌, ◌++◌, take, Float, Result, Ok, Err}
 use Rattle.record.specs.Layout.{spot_width}
 use Rattle.ring.specs.declared.State.{State}
-use Rattle.feed.specs.declared.Answer.{Answer}
-use Rattle.feed.specs.declared.Answer.TheVariants.{Taken, Refused}
 use Rattle.samples.specs.Four.{Four, four_of}
 use Rattle.feed.specs.Feed.{After, column_of}
+use Rattle.tables.specs.declared.Refusal.{Refusal}
 
 -- a call's columns, and the output that it is lent
 pub record Call : Type 0 where
@@ -17,14 +16,14 @@ abbrev pub leaves : State → Four → Call → After
 leaves s ring c = column_of s c.columns ring c.out
 
 -- the records' bytes that a call hands over: so many as it answers, from the output's start on
-unfoldable pub handed : Answer → List ℕ → List ℕ
-handed (Taken n) out = take (n * spot_width) out
-handed (Refused w) out = []
+unfoldable pub handed : Result ℕ Refusal → List ℕ → List ℕ
+handed (Ok n) out = take (n * spot_width) out
+handed (Err w) out = []
 
 -- a column that was taken
-unfoldable pub taken_by : Answer → List Float → List Float
-taken_by (Taken n) c = c
-taken_by (Refused w) c = []
+unfoldable pub taken_by : Result ℕ Refusal → List Float → List Float
+taken_by (Ok n) c = c
+taken_by (Err w) c = []
 
 -- the state after the calls
 unfoldable pub state_after : State → Four → List Call → State

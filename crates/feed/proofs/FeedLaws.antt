@@ -1,4 +1,6 @@
 -- What a column's checks say, and what the code leaves of a column that it takes. Assumes nothing.
+use Rattle.std.specs.Prelude.{Result, Ok, Err, ⊤}
+use Rattle.std.specs.Result.{result_and}
 use Prim.Native.Nat.{ℕ, ◌-◌, ◌*◌, ◌≤◌, ◌<◌}
 use native.Mathlib.Nat.{zero-add}
 use native.Mathlib.Omega.{arith}
@@ -10,9 +12,8 @@ use lib.ListN.{length}
 use lib.Ieee.{Float}
 use borrow.Author.Tests.{lt-ltb, le-ltb, ltb-false, leb-true, leb-false, eqb-true, not-false}
 use Rattle.float.proofs.Bools.{neither}
-use Rattle.tables.specs.declared.Checked.{Checked}
-use Rattle.tables.specs.declared.Checked.TheVariants.{Fine, Bad}
 use Rattle.tables.specs.declared.Set.{Set}
+use Rattle.tables.specs.declared.Refusal.{Refusal}
 use Rattle.tables.specs.declared.Thresholds.{Thresholds}
 use Rattle.tables.specs.declared.Refusal.TheVariants.{Room}
 use Rattle.tables.specs.Refusal.{unless, first_of, sides_check, octave_check}
@@ -22,8 +23,6 @@ use Rattle.record.specs.declared.Record.{Record}
 use Rattle.record.specs.Layout.{spot_width, lay, Laid}
 use Rattle.record.proofs.LayoutLaws.{lay-laid}
 use Rattle.ring.specs.declared.State.{State}
-use Rattle.feed.specs.declared.Answer.{Answer}
-use Rattle.feed.specs.declared.Answer.TheVariants.{Taken, Refused}
 use Rattle.samples.specs.Four.{Four, four_of}
 use Rattle.ring.specs.Ring.{column_spots, judged_spots, kept, stored}
 use Rattle.ring.specs.Lent.{Roomy, Long, height_of}
@@ -70,7 +69,7 @@ pub record Passed (s : State) (given ring : Four) (out : List ℕ) : Type 0 wher
   pub roomy : Roomy s.rows ring
   pub fit : length (judged_spots s ring given) * spot_width ≤ length out
 
-pub passed : (s : State) (given ring : Four) (out : List ℕ) → first_of (column_checks s given ring out) ≡ Fine → Passed s given ring out
+pub passed : (s : State) (given ring : Four) (out : List ℕ) → first_of (column_checks s given ring out) ≡ Ok tt → Passed s given ring out
 unfolding column_checks first_of
 passed s given ring out h =
     let a = unless-fine (past s) _ _ h in
@@ -101,44 +100,44 @@ module _ (s : State) (given ring : Four) (out : List ℕ) (n : ℕ) (high : n �
   -- of one that it takes
   output_took : leb (length (column_spots s ring given (s.position - 2) n) * spot_width) (length out) ≡ true → {m : ℕ} {o : List ℕ} →
       Laid out o 0 m (column_spots s ring given (s.position - 2) n)
-      → after (record { answer = Taken m; state = next s }) (stored s ring given) o ≡ output_of s given ring out
+      → after (Ok m) (next s) (stored s ring given) o ≡ output_of s given ring out
   unfolding first_of unless fed_by cramped
   output_took fits laid =
       rw (le-ltb (length out) (length (judged_spots s ring given) * spot_width) (leb-true _ _ (rw listed-is at fits)), laid.count, zero-add, laid.bytes, listed-is, lay-laid)
 
   -- of either, by whether they fit
-  pub output_is : (fits : Bool) → fits ≡ leb (length (column_spots s ring given (s.position - 2) n) * spot_width) (length out) → {m : ℕ} {w : Answer} {st : State} {a b c d : List Float} {o : List ℕ} →
+  pub output_is : (fits : Bool) → fits ≡ leb (length (column_spots s ring given (s.position - 2) n) * spot_width) (length out) → {m : ℕ} {w : Result ℕ Refusal} {st : State} {a b c d : List Float} {o : List ℕ} →
       Laid out o 0 m (cond fits (column_spots s ring given (s.position - 2) n) [])
       → a ≡ cond fits (kept s.rows s.position ring.l0 given.l0) ring.l0 → b ≡ cond fits (kept s.rows s.position ring.l1 given.l1) ring.l1
       → c ≡ cond fits (kept s.rows s.position ring.l2 given.l2) ring.l2 → d ≡ cond fits (kept s.rows s.position ring.l3 given.l3) ring.l3
-      → w ≡ cond fits (Taken m) (Refused Room) → st ≡ cond fits (next s) s
-      → after (record { answer = w; state = st }) (four_of a b c d) o ≡ output_of s given ring out
+      → w ≡ cond fits (Ok m) (Err Room) → st ≡ cond fits (next s) s
+      → after w st (four_of a b c d) o ≡ output_of s given ring out
   output_is false fit laid a-is b-is c-is d-is w-is st-is = rw (w-is, st-is, a-is, b-is, c-is, d-is) (output_refused (sym fit) laid)
   output_is true fit laid a-is b-is c-is d-is w-is st-is = rw (w-is, st-is, a-is, b-is, c-is, d-is) (output_took (sym fit) laid)
 
 -- ---- start
 
 -- an octave that passed start's checks is small
-pub octave-most : (set : Set) (th : Thresholds) (rows cols octave n0 n1 n2 n3 : ℕ) → first_of (start_checks set th rows cols octave n0 n1 n2 n3) ≡ Fine → octave ≤ 5
+pub octave-most : (set : Set) (th : Thresholds) (rows cols octave n0 n1 n2 n3 : ℕ) → first_of (start_checks set th rows cols octave n0 n1 n2 n3) ≡ Ok tt → octave ≤ 5
 unfolding start_checks first_of
 octave-most set th rows cols octave n0 n1 n2 n3 h =
     let a = unless-fine (sides_check rows cols).holds _ _ h in
     ltb-false 5 octave (unless-fine (octave_check octave).holds _ _ a.1).0
 
 -- what start answers is the first of its checks that holds
-pub start-answer : (set : Set) (th : Thresholds) (rows cols octave n0 n1 n2 n3 : ℕ) → (start_of set th rows cols octave n0 n1 n2 n3).answer ≡ first_of (start_checks set th rows cols octave n0 n1 n2 n3)
+pub start-answer : (set : Set) (th : Thresholds) (rows cols octave n0 n1 n2 n3 : ℕ) → result_and (start_of set th rows cols octave n0 n1 n2 n3) (Ok tt) ≡ first_of (start_checks set th rows cols octave n0 n1 n2 n3)
 unfolding start_of started_by
 start-answer set th rows cols octave n0 n1 n2 n3 = go (first_of (start_checks set th rows cols octave n0 n1 n2 n3))
   where
-    go : (w : Checked) → (started_by w set th rows cols octave).answer ≡ w
-    go (Bad r) = refl
-    go Fine = refl
+    go : (w : Result ⊤ Refusal) → result_and (started_by w set th rows cols octave) (Ok tt) ≡ w
+    go (Err r) = refl
+    go (Ok _) = refl
 
 -- a column that is taken passed all its checks
-pub taken_passed : (s : State) (given ring : Four) (out : List ℕ) (n : ℕ) → (column_of s given ring out).answer ≡ Taken n → Passed s given ring out
+pub taken_passed : (s : State) (given ring : Four) (out : List ℕ) (n : ℕ) → (column_of s given ring out).answer ≡ Ok n → Passed s given ring out
 unfolding column_of fed_by
 taken_passed s given ring out n e = go (first_of (column_checks s given ring out)) refl e
   where
-    go : (w : Checked) → first_of (column_checks s given ring out) ≡ w → (fed_by w s given ring out).answer ≡ Taken n → Passed s given ring out
-    go (Bad r) fine e = let z : ◌≡◌ {A = ℕ} 0 1 = cc in let y : ⊥ = omega arith in absurd y
-    go Fine fine e = passed s given ring out fine
+    go : (w : Result ⊤ Refusal) → first_of (column_checks s given ring out) ≡ w → (fed_by w s given ring out).answer ≡ Ok n → Passed s given ring out
+    go (Err r) fine e = let z : ◌≡◌ {A = ℕ} 0 1 = cc in let y : ⊥ = omega arith in absurd y
+    go (Ok _) fine e = passed s given ring out fine

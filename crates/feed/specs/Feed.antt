@@ -1,20 +1,14 @@
 -- What the feed's two calls answer and leave, as one value of what they are given. Definitions only.
-use Rattle.std.specs.Prelude.{ℕ, ◌+◌, ◌*◌, Bool, ◌||◌, List, [], ◌∷◌, length, ltb, leb}
+use Rattle.std.specs.Prelude.{ℕ, ◌+◌, ◌*◌, Bool, ◌||◌, List, [], ◌∷◌, length, ltb, leb, Result, Ok, Err, ⊤}
 use Rattle.tables.specs.declared.Set.{Set}
 use Rattle.tables.specs.declared.Thresholds.{Thresholds}
 use Rattle.tables.specs.declared.Refusal.{Refusal}
 use Rattle.tables.specs.declared.Refusal.TheVariants.{Room, Past}
-use Rattle.tables.specs.declared.Checked.{Checked}
-use Rattle.tables.specs.declared.Checked.TheVariants.{Fine, Bad}
 use Rattle.tables.specs.Refusal.{Check, ◌when◌, first_of, most_side, sides_check, octave_check, thresholds_check, set_check}
 use Rattle.checks.specs.Checks.{levels_check}
 use Rattle.record.specs.declared.Record.{Record}
 use Rattle.record.specs.Layout.{spot_width, laid}
 use Rattle.ring.specs.declared.State.{State}
-use Rattle.feed.specs.declared.Started.{Started}
-use Rattle.feed.specs.declared.Answer.{Answer}
-use Rattle.feed.specs.declared.Answer.TheVariants.{Taken, Refused}
-use Rattle.feed.specs.declared.Fed.{Fed}
 use Rattle.samples.specs.Four.{Four}
 use Rattle.ring.specs.Ring.{judged_spots, stored}
 
@@ -33,13 +27,13 @@ start_checks set th rows cols octave n0 n1 n2 n3 =
 abbrev pub opened : Set → Thresholds → ℕ → ℕ → ℕ → State
 opened set th rows cols octave = record { set = set; thresholds = th; rows = rows; cols = cols; octave = octave; position = 0 }
 
--- the state that takes no column stands beside a refusal
-unfoldable pub started_by : Checked → Set → Thresholds → ℕ → ℕ → ℕ → Started
-started_by (Bad r) set th rows cols octave = record { answer = Bad r; state = opened set th 0 0 0 }
-started_by Fine set th rows cols octave = record { answer = Fine; state = opened set th rows cols octave }
+-- a refusal opens no feed; otherwise the state before the first column is answered
+unfoldable pub started_by : Result ⊤ Refusal → Set → Thresholds → ℕ → ℕ → ℕ → Result State Refusal
+started_by (Err r) set th rows cols octave = Err r
+started_by (Ok _) set th rows cols octave = Ok (opened set th rows cols octave)
 
 -- the whole of start
-unfoldable pub start_of : Set → Thresholds → ℕ → ℕ → ℕ → ℕ → ℕ → ℕ → ℕ → Started
+unfoldable pub start_of : Set → Thresholds → ℕ → ℕ → ℕ → ℕ → ℕ → ℕ → ℕ → Result State Refusal
 start_of set th rows cols octave n0 n1 n2 n3 = started_by (first_of (start_checks set th rows cols octave n0 n1 n2 n3)) set th rows cols octave
 
 -- ---- a column
@@ -61,18 +55,18 @@ column_checks s given ring out =
 
 -- an answer, the state for the next call, the ring and the whole output after it
 pub record After : Type 0 where
-  pub answer : Answer
+  pub answer : Result ℕ Refusal
   pub state : State
   pub ring : Four
   pub out : List ℕ
 
 -- these, given one by one
-abbrev pub after : Fed → Four → List ℕ → After
-after r ring out = record { answer = r.answer; state = r.state; ring = ring; out = out }
+abbrev pub after : Result ℕ Refusal → State → Four → List ℕ → After
+after a s ring out = record { answer = a; state = s; ring = ring; out = out }
 
 -- a refusal leaves all as it was
 abbrev pub refused : Refusal → State → Four → List ℕ → After
-refused w s ring out = record { answer = Refused w; state = s; ring = ring; out = out }
+refused w s ring out = record { answer = Err w; state = s; ring = ring; out = out }
 
 -- the state after one column more
 abbrev pub next : State → State
@@ -80,12 +74,12 @@ next s = record { set = s.set; thresholds = s.thresholds; rows = s.rows; cols = 
 
 -- the records are written, all other bytes kept; the columns are stored
 abbrev pub took : List Record → State → Four → Four → List ℕ → After
-took rs s given ring out = record { answer = Taken (length rs); state = next s; ring = stored s ring given; out = laid rs out }
+took rs s given ring out = record { answer = Ok (length rs); state = next s; ring = stored s ring given; out = laid rs out }
 
 -- a column is refused, or taken
-unfoldable pub fed_by : Checked → State → Four → Four → List ℕ → After
-fed_by (Bad r) s given ring out = refused r s ring out
-fed_by Fine s given ring out = took (judged_spots s ring given) s given ring out
+unfoldable pub fed_by : Result ⊤ Refusal → State → Four → Four → List ℕ → After
+fed_by (Err r) s given ring out = refused r s ring out
+fed_by (Ok _) s given ring out = took (judged_spots s ring given) s given ring out
 
 -- the whole of a column
 unfoldable pub column_of : State → Four → Four → List ℕ → After

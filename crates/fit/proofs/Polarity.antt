@@ -1,4 +1,5 @@
 -- The envelope at one polarity is an end sample's, at sigma 0, or the stationary point of that polarity with its value. Assumes nothing.
+use Rattle.std.specs.Prelude.{Some}
 use mathlib.Core.Path.{◌≡◌, refl, sym, ap, ◌∙◌, subst}
 use mathlib.Core.Logic.{◌⊎◌, inl, inr}
 use mathlib.Core.List.{List}
@@ -20,12 +21,11 @@ use Rattle.fit.specs.Band.{sign_of, stationary_of}
 use Rattle.fit.specs.Envelope.{within, ends_by, put_low, put_high, shape_of}
 use Rattle.fit.specs.Extrema.{lowered_of, raised_of, single_of, both_of, extrema_of}
 use Rattle.fit.specs.declared.Envelope.{Envelope}
-use Rattle.fit.specs.declared.Stationary.TheVariants.{At}
 use Rattle.fit.proofs.Agree.{envelopes_agree}
 
 -- the stationary point of the polarity, with its value, inside the sigmas
 pub record Turned (k g : List Float) (is_max : Bool) (sigma peak : Float) : Type 0 where
-  pub point : stationary_of k is_max ≡ At sigma
+  pub point : stationary_of k is_max ≡ Some sigma
   pub value : peak ≡ horner_of k sigma
   pub inside : within (g at 0) (g at 3) sigma ≡ true
 
@@ -56,12 +56,12 @@ high-low true v s e = (refl, refl)
 high-low false v s e = (refl, refl)
 
 -- what a point put in comes to
-turned : (k g : List Float) (is_max test : Bool) (sigma peak s : Float) → (test ≡ true → (stationary_of k is_max ≡ At s) × (within (g at 0) (g at 3) s ≡ true)) →
+turned : (k g : List Float) (is_max test : Bool) (sigma peak s : Float) → (test ≡ true → (stationary_of k is_max ≡ Some s) × (within (g at 0) (g at 3) s ≡ true)) →
     (sigma ≡ f0) ⊎ ((test ≡ true) × (sigma ≡ s) × (peak ≡ horner_of k s)) → AtPolarity k g is_max sigma peak
 turned k g is_max test sigma peak s here (inl z) = inl z
 turned k g is_max test sigma peak s here (inr p) =
     let h = here p.0 in
-    inr (record { point = h.0 ∙ ap At (sym p.1); value = p.2 ∙ ap (horner_of k) (sym p.1); inside = ap (within (g at 0) (g at 3)) p.1 ∙ h.1 })
+    inr (record { point = h.0 ∙ ap Some (sym p.1); value = p.2 ∙ ap (horner_of k) (sym p.1); inside = ap (within (g at 0) (g at 3)) p.1 ∙ h.1 })
 
 module _ (k g : List Float) where
   abbrev root : Float
@@ -82,11 +82,11 @@ module _ (k g : List Float) where
   one_point = neg (k at 2) ⊘ (f2 ⊗ k at 1)
 
   module _ (cubic : lt f1e_6 (abs_of (k at 0)) ≡ true) (some : lt f0 (discriminant_of k) ≡ true) where
-    high-point : stationary_of k true ≡ At high_point
+    high-point : stationary_of k true ≡ Some high_point
     unfolding stationary_of sign_of
     high-point = rw (cubic, some, one_times root root-fits)
 
-    low-point : stationary_of k false ≡ At low_point
+    low-point : stationary_of k false ≡ Some low_point
     unfolding stationary_of sign_of
     low-point = rw (cubic, some, minus_one_times root root-fits, sub-neg)
 
@@ -118,11 +118,11 @@ module _ (k g : List Float) where
   counts_inside h = (both (within (g at 0) (g at 3) one_point) _ (both (within (g at 0) (g at 3) one_point && finite (curvature_of k one_point)) _ h).0).0
 
   module _ (flat : lt f1e_6 (abs_of (k at 0)) ≡ false) (bent : lt f1e_6 (abs_of (k at 1)) ≡ true) where
-    one-high : lt (k at 1) f0 ≡ true → stationary_of k true ≡ At one_point
+    one-high : lt (k at 1) f0 ≡ true → stationary_of k true ≡ Some one_point
     unfolding stationary_of
     one-high h = rw (flat, bent, h)
 
-    one-low : lt f0 (k at 1) ≡ true → stationary_of k false ≡ At one_point
+    one-low : lt f0 (k at 1) ≡ true → stationary_of k false ≡ Some one_point
     unfolding stationary_of
     one-low h = rw (flat, bent, below_one_way (k at 1) f0 (subst T (sym h) tt))
 

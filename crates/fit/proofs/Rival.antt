@@ -1,4 +1,5 @@
 -- A value that a cubic reaches in a band, at its stationary point or at an end, is not beaten by what is at most that value. Assumes nothing.
+use Rattle.std.specs.Prelude.{Option, Some, None}
 use mathlib.Core.Path.{◌≡◌, sym, ap, ◌∙◌}
 use mathlib.Core.List.{List}
 use mathlib.Core.Bool.{Bool, true, false, cond, ◌&&◌}
@@ -14,8 +15,6 @@ use Rattle.float.proofs.Denied.{le-number, max-reaches-left, max-reaches-right, 
 use Rattle.fit.specs.Cubic.{horner_of}
 use Rattle.fit.specs.Prims.{ours}
 use Rattle.fit.specs.Band.{finite_cubic, sign_of, stationary_of, better_by, extreme_by, extreme_of}
-use Rattle.fit.specs.declared.Stationary.{Stationary}
-use Rattle.fit.specs.declared.Stationary.TheVariants.{At, Nowhere}
 
 -- the peak strictly beats the extreme, for a maximum or a minimum
 abbrev pub beyond : Bool → Float → Float → Bool
@@ -33,21 +32,21 @@ nan_beaten_by-none false peak = (lt-nan peak).0
 
 -- ---- the better of the ends and the stationary point
 module _ (k : List Float) (sign low high ends : Float) where
-  better-fits : (point : Stationary) → T (fits binary32 ends) → T (fits binary32 (better_by ours k sign low high ends point))
+  better-fits : (point : Option Float) → T (fits binary32 ends) → T (fits binary32 (better_by ours k sign low high ends point))
   unfolding better_by
-  better-fits (At s) f = cond-fits binary32 (lt low s && lt s high) _ ends (max-fits ends _ f (mul-fits binary32 sign (horner_of k s))) f
-  better-fits Nowhere f = f
+  better-fits (Some s) f = cond-fits binary32 (lt low s && lt s high) _ ends (max-fits ends _ f (mul-fits binary32 sign (horner_of k s))) f
+  better-fits None f = f
 
-  better_keeps : (point : Stationary) (p : Float) → is_nan ends ≡ false → lt ends p ≡ false → lt (better_by ours k sign low high ends point) p ≡ false
+  better_keeps : (point : Option Float) (p : Float) → is_nan ends ≡ false → lt ends p ≡ false → lt (better_by ours k sign low high ends point) p ≡ false
   unfolding better_by
-  better_keeps Nowhere p n h = h
-  better_keeps (At s) p n h = go (lt low s && lt s high)
+  better_keeps None p n h = h
+  better_keeps (Some s) p n h = go (lt low s && lt s high)
     where
       go : (t : Bool) → lt (cond t (max_of ends (sign ⊗ horner_of k s)) ends) p ≡ false
       go true = max_keeps_left ends _ p n h
       go false = h
 
-  better-reaches : (s p : Float) → lt low s ≡ true → lt s high ≡ true → T (le p (sign ⊗ horner_of k s)) → lt (better_by ours k sign low high ends (At s)) p ≡ false
+  better-reaches : (s p : Float) → lt low s ≡ true → lt s high ≡ true → T (le p (sign ⊗ horner_of k s)) → lt (better_by ours k sign low high ends (Some s)) p ≡ false
   unfolding better_by
   better-reaches s p a b h = rw (a, b) (max-reaches-right ends (sign ⊗ horner_of k s) p h)
 
@@ -70,7 +69,7 @@ module _ (k : List Float) (low high peak : Float) (is_max : Bool) (held : T (fit
       go false = nan_beaten_by-none is_max peak
 
   -- a stationary point inside the band
-  pub stationary_reaches : (s : Float) → stationary_of k is_max ≡ At s → lt low s ≡ true → lt s high ≡ true →
+  pub stationary_reaches : (s : Float) → stationary_of k is_max ≡ Some s → lt low s ≡ true → lt s high ≡ true →
       T (le (sign_of is_max ⊗ peak) (sign_of is_max ⊗ horner_of k s)) → beyond is_max (extreme_of k low high is_max) peak ≡ false
   stationary_reaches s e a b h = extreme_loses (rw e (better-reaches k (sign_of is_max) low high ends s _ a b h))
 

@@ -7,6 +7,8 @@ pub mod reference;
 pub mod scale_fit;
 pub mod stream;
 
+pub use points::pick;
+
 // The least and the largest response of a pixel over the sigmas, and the sigma of each: 0 where it is an end sample's.
 #[derive(Clone, Copy)]
 pub struct Envelope {
@@ -21,11 +23,4 @@ pub struct Envelope {
 pub struct Band {
     pub low: f32,
     pub high: f32,
-}
-
-// Where a cubic has a stationary point of the polarity asked for.
-#[derive(Clone, Copy)]
-pub enum Stationary {
-    At(f32),
-    Nowhere,
 }

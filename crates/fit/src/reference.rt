@@ -22,6 +22,7 @@ fn lowered(k: [f32; 4], sigmas: [f32; 4], s: f32, e: Envelope) -> Envelope
 }
 
 // The envelope with the maximum s, where it counts.
+// Stays: beside the one for a minimum, as the reference has the two; a flag would be asked at each of the lines that differ.
 fn raised(k: [f32; 4], sigmas: [f32; 4], s: f32, e: Envelope) -> Envelope
     ensures { result ≡ raised_of k sigmas s e }
 {

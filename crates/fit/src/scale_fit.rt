@@ -9,8 +9,8 @@ ghost use Rattle.fit.specs.Cubic.{row_of, coeffs_of, horner_of, discriminant_of,
 ghost use Rattle.fit.specs.Band.{band_of, finite_cubic, sign_of, stationary_of, better_by, extreme_of};
 ghost use Rattle.fit.specs.Owns.{owns_of};
 
+use crate::Band;
 use crate::points::{first_of, is_cubic, is_quadratic, pick, second_of};
-use crate::{Band, Stationary};
 use tables::Set;
 
 // Three entries of a table, from the i-th on, weighing the three differences.
@@ -90,13 +90,14 @@ pub fn neighbor_scale_band(sigmas: [f32; 4], sigma: f32) -> Band
     }
 }
 
-fn is_finite_cubic(k: [f32; 4]) -> bool
-    ensures { result ≡ finite_cubic k }
+// All four numbers are finite: a cubic's coefficients, or a place's samples.
+pub fn all_finite(v: [f32; 4]) -> bool
+    ensures { result ≡ finite_cubic v }
 {
-    float::is_finite(k[0])
-        & float::is_finite(k[1])
-        & float::is_finite(k[2])
-        & float::is_finite(k[3])
+    float::is_finite(v[0])
+        & float::is_finite(v[1])
+        & float::is_finite(v[2])
+        & float::is_finite(v[3])
 }
 
 // 1 for a maximum, -1 for a minimum.
@@ -114,32 +115,32 @@ fn opens(b: f32, is_max: bool) -> bool
 }
 
 // The stationary point of the polarity asked for, where the cubic has one.
-fn stationary(k: [f32; 4], is_max: bool) -> Stationary
+fn stationary(k: [f32; 4], is_max: bool) -> Option<f32>
     ensures { result ≡ stationary_of k is_max }
 {
     if is_cubic(k) {
         let d = discriminant(k);
         if d > 0.0 {
-            return Stationary::At(second_of(k, sign_of(is_max) * quick::sqrt(d)));
+            return Some(second_of(k, sign_of(is_max) * quick::sqrt(d)));
         }
-        return Stationary::Nowhere;
+        return None;
     }
     if is_quadratic(k) & opens(k[1], is_max) {
-        return Stationary::At(first_of(k, true, 0.0));
+        return Some(first_of(k, true, 0.0));
     }
-    Stationary::Nowhere
+    None
 }
 
 // The better of the ends' value and the stationary point's, where that point is strictly inside the band.
-fn better(k: [f32; 4], sign: f32, low: f32, high: f32, ends: f32, point: Stationary) -> f32
+fn better(k: [f32; 4], sign: f32, low: f32, high: f32, ends: f32, point: Option<f32>) -> f32
     ensures { result ≡ better_by ours k sign low high ends point }
 {
     match point {
-        Stationary::At(s) => {
+        Some(s) => {
             let value = float::max(ends, sign * horner(k, s));
             pick((s > low) & (s < high), value, ends)
         }
-        Stationary::Nowhere => ends,
+        None => ends,
     }
 }
 
@@ -153,7 +154,7 @@ fn not_a_number() -> f32
 pub fn band_extreme(k: [f32; 4], low: f32, high: f32, is_max: bool) -> f32
     ensures { result ≡ extreme_of k low high is_max }
 {
-    if !is_finite_cubic(k) {
+    if !all_finite(k) {
         return not_a_number();
     }
     let sign = sign_of(is_max);

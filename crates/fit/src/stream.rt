@@ -35,9 +35,8 @@ pub fn put_low(test: bool, v: f32, s: f32, e: Envelope) -> Envelope
     if test {
         Envelope {
             emin: v,
-            emax: e.emax,
             smin: s,
-            smax: e.smax,
+            ..e
         }
     } else {
         e
@@ -45,15 +44,15 @@ pub fn put_low(test: bool, v: f32, s: f32, e: Envelope) -> Envelope
 }
 
 // Where the test holds, the largest value is v, at s.
+// Stays: beside the one for the least, since the two set other fields, and a flag would choose between the same two values.
 pub fn put_high(test: bool, v: f32, s: f32, e: Envelope) -> Envelope
     ensures { result ≡ put_high test v s e }
 {
     if test {
         Envelope {
-            emin: e.emin,
             emax: v,
-            smin: e.smin,
             smax: s,
+            ..e
         }
     } else {
         e

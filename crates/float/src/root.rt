@@ -15,6 +15,7 @@ fn root_of(n: u64) -> u64
     let mut rest = n;
     let mut root: u64 = 0;
     let mut bit: u64 = 0x4000_0000_0000;
+    // Stays: the bit is tried and goes down by two places a turn; a counter beside it would be one variable more.
     while 0 < bit {
         let tried = root + bit;
         root >>= 1;

@@ -5,8 +5,8 @@ use Rattle.record.specs.declared.Record.{Record}
 use Rattle.record.specs.Layout.{spot_width, record_bytes, record_at}
 use Rattle.follow.specs.declared.Finding.{Finding}
 use Rattle.follow.specs.declared.Finding.TheVariants.{Yes, Extra, Absent, Different}
-use Rattle.follow.specs.declared.Walk.{Walk}
-use Rattle.follow.specs.declared.Walk.TheVariants.{Going, Ended}
+use Rattle.std.specs.declared.ops.ControlFlow.{ControlFlow}
+use Rattle.std.specs.declared.ops.ControlFlow.TheVariants.{Continue, Break}
 
 -- ---- the list's records
 
@@ -30,36 +30,36 @@ Earlier r t = (r.key < t.key) ⊎ ((r.key ≡ t.key) × (r.polarity < t.polarity
 
 -- the record d is due where the i-th of the list stands. Order decides first: one before it is extra, one after it leaves it absent; in its place any other byte
 -- makes it different; a list that ends there leaves it absent
-unfoldable pub meet_of : List ℕ → ℕ → Record → Walk
+unfoldable pub meet_of : List ℕ → ℕ → Record → ControlFlow Finding ℕ
 meet_of b i d =
     cond (ltb i (count_of b))
-    (cond (earlier (record_at b i) d) (Ended (Extra i))
-    (cond (earlier d (record_at b i)) (Ended (Absent i))
-    (cond (same (record_bytes d) (own_bytes b i)) (Going (suc i)) (Ended (Different i)))))
-    (Ended (Absent i))
+    (cond (earlier (record_at b i) d) (Break (Extra i))
+    (cond (earlier d (record_at b i)) (Break (Absent i))
+    (cond (same (record_bytes d) (own_bytes b i)) (Continue (suc i)) (Break (Different i)))))
+    (Break (Absent i))
 
 -- one due record more; past the first difference none is looked at
-unfoldable pub step_of : List ℕ → Walk → Record → Walk
-step_of b (Going i) d = meet_of b i d
-step_of b (Ended a) d = Ended a
+unfoldable pub step_of : List ℕ → ControlFlow Finding ℕ → Record → ControlFlow Finding ℕ
+step_of b (Continue i) d = meet_of b i d
+step_of b (Break a) d = Break a
 
 -- several
-unfoldable pub walk_of : List ℕ → Walk → List Record → Walk
+unfoldable pub walk_of : List ℕ → ControlFlow Finding ℕ → List Record → ControlFlow Finding ℕ
 walk_of b w [] = w
 walk_of b w (d ∷ ds) = walk_of b (step_of b w d) ds
 
 -- no difference yet
-unfoldable pub is_going : Walk → Bool
-is_going (Going i) = true
-is_going (Ended a) = false
+unfoldable pub is_going : ControlFlow Finding ℕ → Bool
+is_going (Continue i) = true
+is_going (Break a) = false
 
 -- after the last due record anything that is left is extra
-unfoldable pub end_of : List ℕ → Walk → Finding
-end_of b (Going i) = cond (ltb i (count_of b)) (Extra i) Yes
-end_of b (Ended a) = a
+unfoldable pub end_of : List ℕ → ControlFlow Finding ℕ → Finding
+end_of b (Continue i) = cond (ltb i (count_of b)) (Extra i) Yes
+end_of b (Break a) = a
 
 -- ---- the whole list
 
 -- what is found of the list b where the records ds are due
 unfoldable pub finding_of : List Record → List ℕ → Finding
-finding_of ds b = end_of b (walk_of b (Going 0) ds)
+finding_of ds b = end_of b (walk_of b (Continue 0) ds)

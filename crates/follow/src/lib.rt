@@ -7,6 +7,7 @@ ghost use Rattle.record.specs.Layout.{spot_width, record_bytes};
 ghost use Rattle.follow.specs.Follow.{earlier, meet_of, step_of, is_going, end_of};
 
 use record::{Record, SPOT_WIDTH};
+use std::ops::ControlFlow;
 
 // What is found of a list: that it is the one that is due, or the index of the first record that differs, and how.
 #[derive(Clone, Copy)]
@@ -18,17 +19,13 @@ pub enum Finding {
 }
 
 // How far a list was followed: so many of its records are those due, or the first difference was found.
-#[derive(Clone, Copy)]
-pub enum Walk {
-    Going(usize),
-    Ended(Finding),
-}
+pub type Walk = ControlFlow<Finding, usize>;
 
 // Whether r comes before t: by key, at one key by polarity.
 fn is_earlier(r: Record, t: Record) -> bool
     ensures { result ≡ earlier r t }
 {
-    (r.key < t.key) | ((r.key == t.key) & (r.polarity < t.polarity))
+    (r.key, r.polarity) < (t.key, t.polarity)
 }
 
 // Whether the record's bytes stand in the list from the byte at on.
@@ -47,39 +44,33 @@ fn meet(list: &[u8], i: usize, d: Record) -> Walk
     ensures { result ≡ meet_of list.now i d }
 {
     if list.len() / SPOT_WIDTH <= i {
-        return Walk::Ended(Finding::Absent(i));
+        return ControlFlow::Break(Finding::Absent(i));
     }
     let given = record::record_from(list, i * SPOT_WIDTH);
     if is_earlier(given, d) {
-        return Walk::Ended(Finding::Extra(i));
+        return ControlFlow::Break(Finding::Extra(i));
     }
     if is_earlier(d, given) {
-        return Walk::Ended(Finding::Absent(i));
+        return ControlFlow::Break(Finding::Absent(i));
     }
     if is_record(d, list, i * SPOT_WIDTH) {
-        return Walk::Going(i + 1);
+        return ControlFlow::Continue(i + 1);
     }
-    Walk::Ended(Finding::Different(i))
+    ControlFlow::Break(Finding::Different(i))
 }
 
 // One due record more; past the first difference none is looked at.
 pub fn step(list: &[u8], w: Walk, d: Record) -> Walk
     ensures { result ≡ step_of list.now w d }
 {
-    match w {
-        Walk::Going(i) => meet(list, i, d),
-        Walk::Ended(found) => Walk::Ended(found),
-    }
+    meet(list, w?, d)
 }
 
 // Whether no difference was found yet.
 pub fn is_going(w: Walk) -> bool
     ensures { result ≡ is_going w }
 {
-    match w {
-        Walk::Going(i) => true,
-        Walk::Ended(found) => false,
-    }
+    w.is_continue()
 }
 
 // After the last due record anything that is left is extra.
@@ -87,13 +78,13 @@ pub fn end(list: &[u8], w: Walk) -> Finding
     ensures { result ≡ end_of list.now w }
 {
     match w {
-        Walk::Going(i) => {
+        ControlFlow::Continue(i) => {
             if i < list.len() / SPOT_WIDTH {
                 Finding::Extra(i)
             } else {
                 Finding::Yes
             }
         }
-        Walk::Ended(found) => found,
+        ControlFlow::Break(found) => found,
     }
 }

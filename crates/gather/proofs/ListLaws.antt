@@ -15,9 +15,9 @@ use Rattle.samples.specs.Four.{Four}
 use Rattle.fit.specs.Cubic.{◌at◌, coeffs_of}
 use Rattle.columns.specs.Line.{Written}
 use Rattle.columns.specs.Stat.{cubic_in}
-use Rattle.nine.specs.Nine.{Span, Spans}
+use Rattle.nine.specs.Nine.{Span, Spans, stencil_by}
 use Rattle.gather.specs.Gather.{Long, samples_from, Gathered}
-use Rattle.gather.specs.Step.{Each, stencil_by, Put, Tried, done, passed, sample_from, Lined, Sampled, lines_at}
+use Rattle.gather.specs.Step.{Each, Put, Tried, done, passed, sample_from, Lined, Sampled, lines_at}
 use Rattle.gather.proofs.StepLaws.{lines_are}
 
 -- ---- fewer places

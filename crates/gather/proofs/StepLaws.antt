@@ -14,7 +14,8 @@ use Rattle.columns.specs.Line.{Written}
 use Rattle.columns.specs.Stat.{cubic_in}
 use Rattle.columns.proofs.LineLaws.{written_none, written-more}
 use Rattle.gather.specs.Gather.{Long, samples_from}
-use Rattle.gather.specs.Step.{Each, stencil_by, Rows, Put, sample_from, lines_at}
+use Rattle.nine.specs.Nine.{stencil_by}
+use Rattle.gather.specs.Step.{Each, Rows, Put, sample_from, lines_at}
 
 -- ---- four of a list
 

@@ -1,19 +1,16 @@
 -- Four places of a column at once, step by step. Definitions only.
-use Rattle.std.specs.Prelude.{ℕ, ◌+◌, ◌-◌, ◌%◌, ◌≤◌, ◌<◌, ◌≡◌, ◌⊎◌, List, [], ◌∷◌, length, get_or, Float}
+use Rattle.std.specs.Prelude.{ℕ, ◌+◌, ◌%◌, ◌≤◌, ◌<◌, ◌≡◌, ◌⊎◌, List, [], ◌∷◌, length, get_or, Float}
 use Rattle.std.specs.Float.{nan}
-use Rattle.float.specs.Num.{◌⊕◌, ◌⊖◌, ◌⊗◌, f4}
+use Rattle.float.specs.Num.{◌⊕◌}
 use Rattle.fit.specs.Cubic.{◌at◌, row_of, coeffs_of}
 use Rattle.columns.specs.Line.{Written}
+use Rattle.nine.specs.Nine.{stencil_by}
 use Rattle.columns.specs.Stat.{cubic_in}
 use Rattle.gather.specs.Gather.{Long}
 
 -- the first four of a list are f 0 to f 3
 abbrev pub Each : List Float → (ℕ → Float) → Type 0
 Each x f = (q : ℕ) → q < 4 → x at q ≡ f q
-
--- the stencil around mid of l, with the column after it at right of r, times a squared sigma
-unfoldable pub stencil_by : List Float → List Float → ℕ → ℕ → ℕ → Float → Float
-stencil_by l r left mid right square = (l at left ⊕ r at right ⊕ l at (mid - 1) ⊕ l at (mid + 1) ⊖ f4 ⊗ l at mid) ⊗ square
 
 -- the coefficients that the table t makes of four places' differences, and of their last samples s, written from m on
 pub record Rows (t d0 d1 d2 s : List Float) (m : ℕ) (a b c d a' b' c' d' : List Float) : Type 0 where

@@ -2,33 +2,19 @@
 // of a column at once, which the machine takes in one step. The column after a place may lie in slices of its own.
 #![tactic(auto)]
 
-ghost use Rattle.std.specs.Prelude.{◌≡◌, ◌+◌, ◌%◌, ◌≤◌, ◌<◌, length};
+ghost use Rattle.std.specs.Prelude.{◌≡◌, ℕ, ◌+◌, ◌%◌, ◌≤◌, ◌<◌, length};
 ghost use Rattle.std.specs.Float.{nan};
-ghost use Rattle.float.specs.Num.{◌⊕◌, ◌⊖◌};
+ghost use Rattle.float.specs.Num.{◌⊕◌, ◌⊖◌, ◌⊗◌};
 ghost use Rattle.fit.specs.Cubic.{◌at◌, row_of};
-ghost use Rattle.samples.specs.Four.{four_of};
+ghost use Rattle.samples.specs.Map.{four_in};
 ghost use Rattle.columns.specs.Line.{Written};
-ghost use Rattle.nine.specs.Nine.{Span, Spans};
+ghost use Rattle.nine.specs.Nine.{Span, Spans, stencil_by};
 ghost use Rattle.gather.specs.Gather.{Long, samples_from, Gathered};
-ghost use Rattle.gather.specs.Step.{Each, stencil_by, Rows, Put, Tried, sample_from, Lined, Sampled, Lines, lines_at};
+ghost use Rattle.gather.specs.Step.{Each, Rows, Put, Tried, sample_from, Lined, Sampled, Lines, lines_at};
 
 use fit::scale_fit::row;
-
-// A sample whose right pixel lies in another slice.
-fn stencil<'a>(
-    l: &'a [f32],
-    r: &'a [f32],
-    left: usize,
-    mid: usize,
-    right: usize,
-    square: f32,
-) -> f32
-    requires le_mid { (1 ≤ mid) × (mid + 1 < length l.now) }
-    requires left_in_bounds { (left < length l.now) × (right < length r.now) }
-    ensures { result ≡ stencil_by l.now r.now left mid right square }
-{
-    (l[left] + r[right] + l[mid - 1] + l[mid + 1] - 4.0 * l[mid]) * square
-}
+use grid::Levels;
+use nine::stencil;
 
 // A level's samples.
 fn samples<'a>(
@@ -64,20 +50,17 @@ fn rows(t: &[f32; 12], i: usize, d0: [f32; 4], d1: [f32; 4], d2: [f32; 4]) -> [f
     ]
 }
 
-fn less(x: [f32; 4], y: [f32; 4]) -> [f32; 4]
-    ensures { Each result (λ q. x at q ⊖ y at q) }
+// What f makes of two fours, pair by pair.
+fn pairwise<F: Fn(f32, f32) -> f32>(x: [f32; 4], y: [f32; 4], f: F) -> [f32; 4]
+    requires { F.IsAlwaysCallable f }
+    ensures { (q : ℕ) → q < 4 → F.post f (x at q) (y at q) (result at q) }
 {
-    [x[0] - y[0], x[1] - y[1], x[2] - y[2], x[3] - y[3]]
+    [f(x[0], y[0]), f(x[1], y[1]), f(x[2], y[2]), f(x[3], y[3])]
 }
 
-fn more(x: [f32; 4], y: [f32; 4]) -> [f32; 4]
-    ensures { Each result (λ q. x at q ⊕ y at q) }
-{
-    [x[0] + y[0], x[1] + y[1], x[2] + y[2], x[3] + y[3]]
-}
-
-fn put(x: [f32; 4], m: usize, a: &mut [f32; 780])
-    requires { (m + 4 ≤ 780) × (length a.old ≡ 780) }
+// Four floats go to a line or a ring, from place m on.
+fn put<const N: usize>(x: [f32; 4], m: usize, a: &mut [f32; N])
+    requires { m + 4 ≤ N }
     ensures { Written nan a.old a.new m 4 (λ q y. y ≡ x at q) }
 {
     a[m] = x[0];
@@ -99,25 +82,14 @@ fn put_rows<'a>(
     c: &mut [f32; 780],
     d: &mut [f32; 780],
 )
-    requires { (m + 4 ≤ 780) × Long a.old b.old c.old d.old }
+    requires { m + 4 ≤ 780 }
     ensures { Rows t.now d0 d1 d2 s m
         a.old b.old c.old d.old a.new b.new c.new d.new }
 {
     put(rows(t, 0, d0, d1, d2), m, a);
     put(rows(t, 3, d0, d1, d2), m, b);
     put(rows(t, 6, d0, d1, d2), m, c);
-    put(more(rows(t, 9, d0, d1, d2), s), m, d);
-}
-
-// Four floats go to a line, from place m on.
-fn put_line(x: [f32; 4], m: usize, s: &mut [f32; 260])
-    requires { (m + 4 ≤ 260) × (length s.old ≡ 260) }
-    ensures { Written nan s.old s.new m 4 (λ q y. y ≡ x at q) }
-{
-    s[m] = x[0];
-    s[m + 1] = x[1];
-    s[m + 2] = x[2];
-    s[m + 3] = x[3];
+    put(pairwise(rows(t, 9, d0, d1, d2), s, |x, y| x + y), m, d);
 }
 
 // A level's samples at the four places from the h-th on go to its line, if h is one of the first n.
@@ -133,13 +105,13 @@ fn put_samples<'a>(
     s: &mut [f32; 260],
 )
     requires span { Span (length l.now) (length r.now) left mid right (n + 3) }
-    requires n_bound { (n ≤ 254) × (length s.old ≡ 260) }
+    requires n_bound { n ≤ 254 }
     ensures { Lined (sample_from l.now r.now left mid right square) n h s.old s.new }
 {
     if n <= h {
         return;
     }
-    put_line(samples(l, r, left + h, mid + h, right + h, square), h, s);
+    put(samples(l, r, left + h, mid + h, right + h, square), h, s);
 }
 
 // The pixel of a candidate's code.
@@ -156,26 +128,25 @@ fn level_list<'a>(
     left: usize,
     mid: usize,
     right: usize,
-    square: f32,
+    sigma: f32,
     n: usize,
     k: usize,
     codes: &'a [u32; 512],
     s: &mut [f32; 260],
 )
     requires span { Span (length l.now) (length r.now) left mid right (n + 3) }
-    requires n_bound { (n ≤ 254) × (k ≤ 512) × (length s.old ≡ 260) }
-    ensures { Sampled (sample_from l.now r.now left mid right square) n k codes.now s.new }
+    requires n_bound { (n ≤ 254) × (k ≤ 512) }
+    ensures { Sampled (sample_from l.now r.now left mid right (sigma ⊗ sigma)) n k codes.now s.new }
 {
-    let mut i: usize = 0;
-    while i < k {
+    let square = sigma * sigma;
+    for i in 0..k {
         put_samples(l, r, left, mid, right, square, n, pixel_of(codes[i]), s);
-        i += 1;
     }
 }
 
 // Four floats of a line, from place h on.
 fn four_of(s: &[f32; 260], h: usize) -> [f32; 4]
-    requires { (h + 4 ≤ 260) × (length s.now ≡ 260) }
+    requires { h + 4 ≤ 260 }
     ensures { Each result (λ q. s.now at (h + q)) }
 {
     [s[h], s[h + 1], s[h + 2], s[h + 3]]
@@ -195,15 +166,14 @@ fn put_cubics<'a>(
     c: &mut [f32; 780],
     d: &mut [f32; 780],
 )
-    requires h_bound { (h + 4 ≤ 260) × Lines s0.now s1.now s2.now s3.now }
-    requires h_bound_2 { (z + h + 4 ≤ 780) × Long a.old b.old c.old d.old }
+    requires { (h + 4 ≤ 260) × (z + h + 4 ≤ 780) }
     ensures { Put t.now (lines_at s0.now s1.now s2.now s3.now) z h
         a.old b.old c.old d.old a.new b.new c.new d.new }
 {
     let x3 = four_of(s3, h);
-    let d0 = less(four_of(s0, h), x3);
-    let d1 = less(four_of(s1, h), x3);
-    let d2 = less(four_of(s2, h), x3);
+    let d0 = pairwise(four_of(s0, h), x3, |x, y| x - y);
+    let d1 = pairwise(four_of(s1, h), x3, |x, y| x - y);
+    let d2 = pairwise(four_of(s2, h), x3, |x, y| x - y);
     put_rows(t, d0, d1, d2, x3, z + h, a, b, c, d);
 }
 
@@ -222,8 +192,7 @@ fn put_below<'a>(
     c: &mut [f32; 780],
     d: &mut [f32; 780],
 )
-    requires n_bound { (n ≤ 254) × Lines s0.now s1.now s2.now s3.now }
-    requires z_bound { (z ≤ 520) × Long a.old b.old c.old d.old }
+    requires { (n ≤ 254) × (z ≤ 520) }
     ensures { Tried t.now (lines_at s0.now s1.now s2.now s3.now) z n h
         a.old b.old c.old d.old a.new b.new c.new d.new }
 {
@@ -248,56 +217,46 @@ fn cubic_list<'a>(
     c: &mut [f32; 780],
     d: &mut [f32; 780],
 )
-    requires n_bound { (n ≤ 254) × Lines s0.now s1.now s2.now s3.now }
-    requires k_bound { (k ≤ 512) × (z ≤ 520) × Long a.old b.old c.old d.old }
+    requires { (n ≤ 254) × (k ≤ 512) × (z ≤ 520) }
     ensures { Gathered t.now (lines_at s0.now s1.now s2.now s3.now) z n k codes.now
         a.old b.old c.old d.old a.new b.new c.new d.new }
 {
-    let mut i: usize = 0;
-    while i < k {
+    for i in 0..k {
         put_below(t, s0, s1, s2, s3, n, z, pixel_of(codes[i]), a, b, c, d);
-        i += 1;
     }
 }
 
 // The cubics of the three places from each candidate's own on, in the slot at z: of those candidates whose pixel is one of the first n.
 pub fn fill_list<'a>(
-    l0: &'a [f32],
-    l1: &'a [f32],
-    l2: &'a [f32],
-    l3: &'a [f32],
-    r0: &'a [f32],
-    r1: &'a [f32],
-    r2: &'a [f32],
-    r3: &'a [f32],
+    l: &Levels<'a>,
+    r: &Levels<'a>,
     left: usize,
     mid: usize,
     right: usize,
     g: [f32; 4],
-    t: &'a [f32; 12],
+    t: &[f32; 12],
     n: usize,
     k: usize,
     z: usize,
-    codes: &'a [u32; 512],
+    codes: &[u32; 512],
     a: &mut [f32; 780],
     b: &mut [f32; 780],
     c: &mut [f32; 780],
     d: &mut [f32; 780],
 )
-    requires spans { Spans (four_of l0.now l1.now l2.now l3.now) (four_of r0.now r1.now r2.now r3.now) left mid right (n + 3) }
+    requires spans { Spans (four_in l.now) (four_in r.now) left mid right (n + 3) }
     requires n_bound { (n ≤ 254) × (k ≤ 512) }
-    requires z_bound { (z ≤ 520) × Long a.old b.old c.old d.old }
-    ensures { Gathered t.now (samples_from (four_of l0.now l1.now l2.now l3.now)
-        (four_of r0.now r1.now r2.now r3.now) left mid right g) z n k codes.now
+    requires z_bound { z ≤ 520 }
+    ensures { Gathered t.now (samples_from (four_in l.now) (four_in r.now) left mid right g) z n k codes.now
         a.old b.old c.old d.old a.new b.new c.new d.new }
 {
     let mut s0 = [0.0f32; 260];
     let mut s1 = [0.0f32; 260];
     let mut s2 = [0.0f32; 260];
     let mut s3 = [0.0f32; 260];
-    level_list(l0, r0, left, mid, right, g[0] * g[0], n, k, codes, &mut s0);
-    level_list(l1, r1, left, mid, right, g[1] * g[1], n, k, codes, &mut s1);
-    level_list(l2, r2, left, mid, right, g[2] * g[2], n, k, codes, &mut s2);
-    level_list(l3, r3, left, mid, right, g[3] * g[3], n, k, codes, &mut s3);
+    level_list(l.l0, r.l0, left, mid, right, g[0], n, k, codes, &mut s0);
+    level_list(l.l1, r.l1, left, mid, right, g[1], n, k, codes, &mut s1);
+    level_list(l.l2, r.l2, left, mid, right, g[2], n, k, codes, &mut s2);
+    level_list(l.l3, r.l3, left, mid, right, g[3], n, k, codes, &mut s3);
     cubic_list(t, &s0, &s1, &s2, &s3, n, k, z, codes, a, b, c, d);
 }

@@ -1,4 +1,5 @@
 -- Laws of the input's levels and of its checks.
+use Rattle.std.specs.Prelude.{Ok, Err}
 use Prim.Native.Nat.{ℕ, ◌+◌, ◌*◌, ◌≤◌, ◌<◌}
 use native.Mathlib.Nat.{mul-le-mul, mul-le-mul_right}
 use native.Mathlib.Omega.{arith}
@@ -15,7 +16,6 @@ use Rattle.words.specs.Words.{word_from, floats_at}
 use Rattle.words.proofs.WordsLaws.{length-floats_at}
 use Rattle.tables.specs.declared.Refusal.{Refusal}
 use Rattle.tables.specs.declared.Refusal.TheVariants.{Size, Level}
-use Rattle.tables.specs.declared.Checked.TheVariants.{Fine, Bad}
 use Rattle.tables.specs.Refusal.{unless, first_of}
 use Rattle.tables.proofs.RefusalLaws.{unless-fine}
 use Rattle.input.specs.Input.{rows_from, cols_from, area_from, level_from, level_array, list_checks}
@@ -30,7 +30,7 @@ pub record Tile (b : List ℕ) : Type 0 where
 pub area_sixty : {m n : ℕ} → m ≤ 60 → n ≤ 60 → m * n ≤ 3600
 area_sixty p q = mul-le-mul p q
 
-pub checks_tile : (b : List ℕ) → first_of (list_checks b) ≡ Fine → Tile b
+pub checks_tile : (b : List ℕ) → first_of (list_checks b) ≡ Ok tt → Tile b
 unfolding list_checks first_of
 checks_tile b h =
     let header = unless-fine _ _ _ h in
@@ -73,11 +73,11 @@ length-start b k p q = ap length (level_start b k p q) ∙ length-floats_at (are
 unfoldable pub too_long : List ℕ → Refusal
 too_long b = cond (ltb 60 (rows_from b) || ltb 60 (cols_from b)) Size Level
 
-pub checks_long : (b : List ℕ) → 58160 < length b → first_of (list_checks b) ≡ Bad (too_long b)
+pub checks_long : (b : List ℕ) → 58160 < length b → first_of (list_checks b) ≡ Err (too_long b)
 unfolding list_checks first_of unless too_long
 checks_long b h = rw (le-ltb (length b) 560 (omega arith)) (go (ltb 60 (rows_from b) || ltb 60 (cols_from b)) refl)
   where
-    go : (t : Bool) → (ltb 60 (rows_from b) || ltb 60 (cols_from b)) ≡ t → unless t Size (unless (not (eqb (length b) (560 + 16 * area_from b))) Level Fine) ≡ Bad (cond t Size Level)
+    go : (t : Bool) → (ltb 60 (rows_from b) || ltb 60 (cols_from b)) ≡ t → unless t Size (unless (not (eqb (length b) (560 + 16 * area_from b))) Level (Ok tt)) ≡ Err (cond t Size Level)
     go true e = refl
     go false e =
         let side = neither (ltb 60 (rows_from b)) (ltb 60 (cols_from b)) e in
@@ -90,7 +90,7 @@ word_cut n b at h =
     rw (get_or-take n b at 0 (omega arith), get_or-take n b (at + 1) 0 (omega arith), get_or-take n b (at + 2) 0 (omega arith), get_or-take n b (at + 3) 0 (omega arith))
 
 -- one byte more than the longest tile's is enough to see it
-pub checks_cut : (b : List ℕ) → 58160 < length b → first_of (list_checks (take 58161 b)) ≡ Bad (too_long b)
+pub checks_cut : (b : List ℕ) → 58160 < length b → first_of (list_checks (take 58161 b)) ≡ Err (too_long b)
 unfolding too_long
 checks_cut b h =
     checks_long (take 58161 b) (omega (arith, length-take-le 58161 b (omega arith)))

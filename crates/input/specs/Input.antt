@@ -5,12 +5,12 @@ use Rattle.std.specs.Float.Ieee.{of_bits}
 use Rattle.tables.specs.declared.Set.{Set}
 use Rattle.tables.specs.declared.Thresholds.{Thresholds}
 use Rattle.tables.specs.declared.Refusal.TheVariants.{Size, Level}
-use Rattle.tables.specs.Refusal.{Check, ◌when◌, read_set_of}
+use Rattle.tables.specs.Refusal.{Check, ◌when◌, read_or_blank}
 use Rattle.words.specs.Words.{word_from, float_from, floats_at}
 
 -- the set, in the first 528 bytes
 abbrev pub set_from : List ℕ → Set
-set_from b = (read_set_of (take 528 b)).set
+set_from b = read_or_blank (take 528 b)
 
 -- five thresholds
 abbrev pub thresholds_from : List ℕ → Thresholds

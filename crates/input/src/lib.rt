@@ -1,13 +1,12 @@
 // What the list program reads of its input: its checks, and the parts of a tile that passes them.
 #![tactic(auto)]
 
-ghost use Rattle.std.specs.Prelude.{◌≡◌, ◌+◌, ◌*◌, ◌<◌, ◌≤◌, length};
-ghost use Rattle.tables.specs.declared.Checked.TheVariants.{Fine};
+ghost use Rattle.std.specs.Prelude.{Ok, ◌≡◌, ◌+◌, ◌*◌, ◌<◌, ◌≤◌, length};
 ghost use Rattle.tables.specs.Refusal.{first_of};
 ghost use Rattle.words.specs.Words.{word_from};
 ghost use Rattle.input.specs.Input.{set_from, thresholds_from, area_from, level_array, list_checks};
 
-use tables::{Checked, Refusal, Set, Thresholds};
+use tables::{Refusal, Set, Thresholds};
 
 // The word at the byte at, as a count.
 pub fn count_from(input: &[u8], at: usize) -> usize
@@ -27,24 +26,24 @@ fn whole_length(rows: usize, cols: usize) -> usize
 }
 
 // Of the input's own checks, in their order, the first that holds.
-pub fn checked(input: &[u8]) -> Checked
+pub fn checked(input: &[u8]) -> Result<(), Refusal>
     ensures { result ≡ first_of (list_checks input.now) }
 {
     if input.len() < 560 {
-        return Checked::Bad(Refusal::Level);
+        return Err(Refusal::Level);
     }
     let rows = count_from(input, 548);
     if 60 < rows {
-        return Checked::Bad(Refusal::Size);
+        return Err(Refusal::Size);
     }
     let cols = count_from(input, 552);
     if 60 < cols {
-        return Checked::Bad(Refusal::Size);
+        return Err(Refusal::Size);
     }
     if input.len() != whole_length(rows, cols) {
-        return Checked::Bad(Refusal::Level);
+        return Err(Refusal::Level);
     }
-    Checked::Fine
+    Ok(())
 }
 
 // The set in the first 528 bytes, that of zeros where it is refused.
@@ -52,8 +51,7 @@ pub fn set_from(input: &[u8]) -> Set
     requires { 528 ≤ length input.now }
     ensures { result ≡ set_from input.now }
 {
-    let read = tables::read_set(&input[..528]);
-    read.set
+    tables::read_or_blank(&input[..528])
 }
 
 // The five thresholds.
@@ -72,7 +70,7 @@ pub fn thresholds_from(input: &[u8]) -> Thresholds
 
 // The pixels of a level.
 pub fn area_from(input: &[u8]) -> usize
-    requires { first_of (list_checks input.now) ≡ Fine }
+    requires { first_of (list_checks input.now) ≡ Ok tt }
     ensures { (result ≡ area_from input.now) × (result ≤ 3600) }
 {
     let rows = count_from(input, 548);
@@ -82,7 +80,7 @@ pub fn area_from(input: &[u8]) -> usize
 
 // Level k, at the start of an array of zeros.
 pub fn level_from(input: &[u8], k: usize) -> [f32; 3600]
-    requires input_value { first_of (list_checks input.now) ≡ Fine }
+    requires input_value { first_of (list_checks input.now) ≡ Ok tt }
     requires k_bound { k < 4 }
     ensures { result ≡ level_array input.now k }
 {

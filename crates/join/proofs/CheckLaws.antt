@@ -1,16 +1,16 @@
 -- Laws of the join's checks: the first bad record, and what a call that none refuses has.
+use Rattle.std.specs.Prelude.{Ok}
 use Prim.Native.Nat.{ℕ, zero, suc, ◌+◌, ◌-◌, ◌*◌, ◌/◌, ◌%◌, ◌≤◌, ◌<◌}
 use native.Mathlib.Nat.{not-suc-le-zero, le_trans}
 use native.Mathlib.Omega.{arith}
 use mathlib.Core.Bool.{Bool, true, false, cond}
 use mathlib.Core.List.{List}
-use mathlib.Core.Path.{◌≡◌, refl, sym}
+use mathlib.Core.Path.{◌≡◌, refl}
 use lib.Dec.{ltb, eqb}
 use lib.ListN.{length}
-use borrow.Author.Tests.{ltb-true, ltb-false, lt-ltb, le-ltb, eqb-true, not-false}
+use borrow.Author.Tests.{ltb-true, ltb-false, eqb-true, not-false}
 use Rattle.tables.specs.Set.{good}
 use Rattle.tables.specs.declared.Set.{Set}
-use Rattle.tables.specs.declared.Checked.TheVariants.{Fine}
 use Rattle.record.specs.Readable.{readable}
 use Rattle.sized.proofs.HomeLaws.{home_placed}
 use Rattle.join.specs.Forms.{width_of, sized_width_of, record_in}
@@ -87,7 +87,7 @@ whole_records true n h = omega arith
 whole_records false n h = omega arith
 
 module _ (old : Bool) (s : Set) (rows cols : ℕ) (b : List ℕ) (room : ℕ) where
-  pub checks_passed : first_of (join_checks old s rows cols b room) ≡ Fine → Passed old s rows cols b room
+  pub checks_passed : first_of (join_checks old s rows cols b room) ≡ Ok tt → Passed old s rows cols b room
   unfolding join_checks first_of
   checks_passed h =
       let sides = unless-fine _ _ _ h in
@@ -110,19 +110,3 @@ module _ (old : Bool) (s : Set) (rows cols : ℕ) (b : List ℕ) (room : ℕ) wh
   pub passed_writable : Passed old s rows cols b room → Writable old b room
   passed_writable p =
       record { placed = λ i less. home_placed rows cols _ p.rows-most p.cols-most (p.fair i less); enough = p.room-enough }
-
--- ---- room, by the records that it holds
-
--- fewer records fit than there are exactly where the room is less than theirs
-room_by : (n room w : ℕ) → (room / w < n → room < n * w) → (n ≤ room / w → n * w ≤ room) → ltb (room / w) n ≡ ltb room (n * w)
-room_by n room w less enough = go (ltb (room / w) n) refl
-  where
-    go : (t : Bool) → ltb (room / w) n ≡ t → t ≡ ltb room (n * w)
-    go true e = sym (lt-ltb room (n * w) (less (ltb-true _ _ e)))
-    go false e = sym (le-ltb room (n * w) (enough (ltb-false _ _ e)))
-
-pub old_short : (n room : ℕ) → ltb (room / sized_width_of true) n ≡ ltb room (n * sized_width_of true)
-old_short n room = room_by n room (sized_width_of true) (λ h. omega arith) (λ h. omega arith)
-
-pub present_short : (n room : ℕ) → ltb (room / sized_width_of false) n ≡ ltb room (n * sized_width_of false)
-present_short n room = room_by n room (sized_width_of false) (λ h. omega arith) (λ h. omega arith)

@@ -1,4 +1,5 @@
 -- What the join gives each spot: a size and a home from its own record alone, beside the record itself.
+use Rattle.std.specs.Prelude.{Result, Ok, Err, ⊤}
 use Prim.Native.Nat.{ℕ, zero, suc, ◌+◌, ◌*◌, ◌/◌, ◌≤◌, ◌<◌}
 use native.Mathlib.Nat.{not-suc-le-zero, le_of_suc-le-suc, zero-add, zero-mul, add_comm}
 use native.Mathlib.Omega.{arith}
@@ -10,10 +11,9 @@ use lib.Seq.{take_at, take-take, drop-append-add}
 use lib.Dec.{ltb}
 use borrow.Author.Tests.{ltb-true}
 use Rattle.tables.specs.Set.{all_under}
+use Rattle.tables.specs.declared.Refusal.{Refusal}
 use Rattle.tables.specs.Refusal.{first_of}
 use Rattle.tables.specs.declared.Set.{Set}
-use Rattle.tables.specs.declared.Checked.{Checked}
-use Rattle.tables.specs.declared.Checked.TheVariants.{Fine, Bad}
 use Rattle.tables.proofs.SetLaws.{every_or_default}
 use Rattle.moves.proofs.MovesLaws.{nearby_bounds}
 use Rattle.record.specs.declared.Record.{Record}
@@ -26,7 +26,6 @@ use Rattle.sized.specs.Sized.{size_of, sized_bytes, old_sized_bytes}
 use Rattle.sized.proofs.SizeLaws.{no_cause-accepted, accepted_no_cause, accepted_at, cause_at, old_accepted_at, old_cause_at}
 use Rattle.join.specs.Forms.{width_of, sized_width_of, record_in, sized_in}
 use Rattle.join.specs.Join.{records_from, sized_all, join_checks, laid_sized, joined, join_by}
-use Rattle.join.specs.declared.Joined.TheVariants.{Count}
 use Rattle.join.proofs.CheckLaws.{Passed, checks_passed}
 use Rattle.join.proofs.SizedLaws.{length-sized_in, next_place}
 
@@ -86,13 +85,13 @@ same_read false b c i j e = converse.same-bytes-same-record b c (i * width_of fa
 
 -- ---- a call that answers a count
 
-counted : (old : Bool) (w : Checked) (s : Set) (b out : List ℕ) (n : ℕ) → (joined old w s b out).answer ≡ Count n
-    → (w ≡ Fine) × (n ≡ length b / width_of old) × ((joined old w s b out).buffer ≡ laid_sized old s b out)
+counted : (old : Bool) (w : Result ⊤ Refusal) (s : Set) (b out : List ℕ) (n : ℕ) → (joined old w s b out).answer ≡ Ok n
+    → (w ≡ Ok tt) × (n ≡ length b / width_of old) × ((joined old w s b out).buffer ≡ laid_sized old s b out)
 unfolding joined
-counted old (Bad r) s b out n e = (cc, cc, cc)
-counted old Fine s b out n e = (refl, cc, refl)
+counted old (Err r) s b out n e = (cc, cc, cc)
+counted old (Ok _) s b out n e = (refl, cc, refl)
 
-module _ (old : Bool) (s : Set) (rows cols : ℕ) (list out : List ℕ) (n : ℕ) (answered : (join_by old s rows cols list out).answer ≡ Count n) where
+module _ (old : Bool) (s : Set) (rows cols : ℕ) (list out : List ℕ) (n : ℕ) (answered : (join_by old s rows cols list out).answer ≡ Ok n) where
   abbrev after : List ℕ
   after = (join_by old s rows cols list out).buffer
 
@@ -100,7 +99,7 @@ module _ (old : Bool) (s : Set) (rows cols : ℕ) (list out : List ℕ) (n : ℕ
   abbrev sized_there : ℕ → List ℕ
   sized_there i = take (sized_width_of old) (drop (i * sized_width_of old) after)
 
-  parts : (first_of (join_checks old s rows cols list (length out)) ≡ Fine) × (n ≡ length list / width_of old) × (after ≡ laid_sized old s list out)
+  parts : (first_of (join_checks old s rows cols list (length out)) ≡ Ok tt) × (n ≡ length list / width_of old) × (after ≡ laid_sized old s list out)
   unfolding join_by
   parts = counted old _ s list out n answered
 
@@ -132,7 +131,7 @@ module _ (old : Bool) (s : Set) (rows cols : ℕ) (list out : List ℕ) (n : ℕ
       ∙ own_first old s rows cols i list bytes passed.long (inside i h) (passed.fair i (inside i h))
 
 module _ (old : Bool) (s : Set) (rows cols rows' cols' : ℕ) (list list' out out' : List ℕ) (n n' i j : ℕ)
-    (answered : (join_by old s rows cols list out).answer ≡ Count n) (answered' : (join_by old s rows' cols' list' out').answer ≡ Count n') (inside-n : i < n) (inside-n' : j < n') where
+    (answered : (join_by old s rows cols list out).answer ≡ Ok n) (answered' : (join_by old s rows' cols' list' out').answer ≡ Ok n') (inside-n : i < n) (inside-n' : j < n') where
   -- two calls with the same set give equal records the same size and home, on whatever maps, at whatever place and among whatever others
   pub same-record-same-size : record_in old list i ≡ record_in old list' j
       → take (sized_width_of old) (drop (i * sized_width_of old) (join_by old s rows cols list out).buffer) ≡ take (sized_width_of old) (drop (j * sized_width_of old) (join_by old s rows' cols' list' out').buffer)

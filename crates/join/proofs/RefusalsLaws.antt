@@ -1,4 +1,5 @@
 -- What the join's promise settles: the first of its checks that holds, and what becomes of the buffer's bytes.
+use Rattle.std.specs.Prelude.{Result, Ok, Err, ⊤}
 use Prim.Native.Nat.{ℕ, ◌+◌, ◌-◌, ◌*◌, ◌/◌, ◌%◌, ◌≤◌, ◌<◌}
 use native.Mathlib.Omega.{arith}
 use mathlib.Core.Bool.{Bool, true, false, not, false≢true}
@@ -13,37 +14,34 @@ use Rattle.tables.specs.Refusal.{Check, ◌when◌, unless, first_of, said_at, F
 use Rattle.tables.specs.declared.Set.{Set}
 use Rattle.tables.specs.declared.Refusal.{Refusal}
 use Rattle.tables.specs.declared.Refusal.TheVariants.{Size, BadSet, Records, Room}
-use Rattle.tables.specs.declared.Checked.{Checked}
-use Rattle.tables.specs.declared.Checked.TheVariants.{Fine, Bad}
 use Rattle.join.specs.Forms.{width_of, sized_width_of}
 use Rattle.join.specs.Join.{bad_of, records_of, sized_all, laid_sized, records_checks, join_checks, Outcome, joined, join_by}
 use Rattle.join.specs.Claims.{WrongLength, FirstBad, Fault}
-use Rattle.join.specs.declared.Joined.TheVariants.{Count, Refused}
 use Rattle.join.proofs.CheckLaws.{fair_before, bad_unfair, checks_passed}
 use Rattle.join.proofs.SizedLaws.{length-all, stored-laid}
 use Rattle.tables.proofs.RefusalLaws as order
 
 -- ---- over the outcome of the checks
 
-answer-refused : (old : Bool) (w : Checked) (s : Set) (b out : List ℕ) (r : Refusal) → (joined old w s b out).answer ≡ Refused r → w ≡ Bad r
+answer-refused : (old : Bool) (w : Result ⊤ Refusal) (s : Set) (b out : List ℕ) (r : Refusal) → (joined old w s b out).answer ≡ Err r → w ≡ Err r
 unfolding joined
-answer-refused old (Bad q) s b out r e = cc
-answer-refused old Fine s b out r e = cc
+answer-refused old (Err q) s b out r e = cc
+answer-refused old (Ok _) s b out r e = cc
 
-answer_counted : (old : Bool) (w : Checked) (s : Set) (b out : List ℕ) (n : ℕ) → (joined old w s b out).answer ≡ Count n → w ≡ Fine
+answer_counted : (old : Bool) (w : Result ⊤ Refusal) (s : Set) (b out : List ℕ) (n : ℕ) → (joined old w s b out).answer ≡ Ok n → w ≡ Ok tt
 unfolding joined
-answer_counted old (Bad q) s b out n e = cc
-answer_counted old Fine s b out n e = refl
+answer_counted old (Err q) s b out n e = cc
+answer_counted old (Ok _) s b out n e = refl
 
-buffer-kept : (old : Bool) (w : Checked) (s : Set) (b out : List ℕ) (r : Refusal) → (joined old w s b out).answer ≡ Refused r → (joined old w s b out).buffer ≡ out
+buffer-kept : (old : Bool) (w : Result ⊤ Refusal) (s : Set) (b out : List ℕ) (r : Refusal) → (joined old w s b out).answer ≡ Err r → (joined old w s b out).buffer ≡ out
 unfolding joined
-buffer-kept old (Bad q) s b out r e = refl
-buffer-kept old Fine s b out r e = cc
+buffer-kept old (Err q) s b out r e = refl
+buffer-kept old (Ok _) s b out r e = cc
 
-joined_length : (old : Bool) (w : Checked) (s : Set) (b out : List ℕ) → (w ≡ Fine → length b / width_of old * sized_width_of old ≤ length out) → length (joined old w s b out).buffer ≡ length out
+joined_length : (old : Bool) (w : Result ⊤ Refusal) (s : Set) (b out : List ℕ) → (w ≡ Ok tt → length b / width_of old * sized_width_of old ≤ length out) → length (joined old w s b out).buffer ≡ length out
 unfolding joined
-joined_length old (Bad r) s b out room = refl
-joined_length old Fine s b out room = ap length (sym (stored-laid old s b out (room refl))) ∙ length-sets out 0 (sized_all old s (records_of old b))
+joined_length old (Err r) s b out room = refl
+joined_length old (Ok _) s b out room = ap length (sym (stored-laid old s b out (room refl))) ∙ length-sets out 0 (sized_all old s (records_of old b))
 
 laid-rest : (old : Bool) (s : Set) (b out : List ℕ) → drop (length b / width_of old * sized_width_of old) (laid_sized old s b out) ≡ drop (length b / width_of old * sized_width_of old) out
 unfolding laid_sized
@@ -55,10 +53,10 @@ laid_keeps old s b out i h =
     let e : k + (i - k) ≡ i = omega arith in
     rw (← e, ← get_or-drop k (laid_sized old s b out) (i - k) 0, laid-rest old s b out, get_or-drop k out (i - k) 0)
 
-joined_keeps : (old : Bool) (w : Checked) (s : Set) (b out : List ℕ) (i : ℕ) → length b / width_of old * sized_width_of old ≤ i → get_or (joined old w s b out).buffer i 0 ≡ get_or out i 0
+joined_keeps : (old : Bool) (w : Result ⊤ Refusal) (s : Set) (b out : List ℕ) (i : ℕ) → length b / width_of old * sized_width_of old ≤ i → get_or (joined old w s b out).buffer i 0 ≡ get_or out i 0
 unfolding joined
-joined_keeps old (Bad r) s b out i h = refl
-joined_keeps old Fine s b out i h = laid_keeps old s b out i h
+joined_keeps old (Err r) s b out i h = refl
+joined_keeps old (Ok _) s b out i h = laid_keeps old s b out i h
 
 -- ---- the list's checks
 
@@ -67,7 +65,7 @@ not_records e = omega (arith, e)
 
 -- of checks in the join's order, what is refused with 5 is the length, or a record where the length is right
 list_refused : (sides set whole bad room : Bool) (count first i : ℕ)
-    → first_of ((Size when sides) ∷ (BadSet when set) ∷ (Records count when not whole) ∷ (Records first when bad) ∷ (Room when room) ∷ []) ≡ Bad (Records i)
+    → first_of ((Size when sides) ∷ (BadSet when set) ∷ (Records count when not whole) ∷ (Records first when bad) ∷ (Room when room) ∷ []) ≡ Err (Records i)
     → ((whole ≡ false) × (i ≡ count)) ⊎ ((whole ≡ true) × (bad ≡ true) × (i ≡ first))
 unfolding first_of unless
 list_refused true set whole bad room count first i h = absurd (not_records cc)
@@ -93,12 +91,12 @@ tests_say old rows cols list i (inr h) =
     })
 
 -- what the checks of a list's records refuse is 5, with the index of the fault
-pub records_fault : (old : Bool) (rows cols : ℕ) (list : List ℕ) (r : Refusal) → first_of (records_checks old rows cols list) ≡ Bad r → Fault old rows cols list r
+pub records_fault : (old : Bool) (rows cols : ℕ) (list : List ℕ) (r : Refusal) → first_of (records_checks old rows cols list) ≡ Err r → Fault old rows cols list r
 unfolding first_of unless
 records_fault old rows cols list r h = go (eqb (length list % width_of old) 0) refl (ltb (bad_of old rows cols list) (length list / width_of old)) refl h
   where
     go : (whole : Bool) → eqb (length list % width_of old) 0 ≡ whole → (bad : Bool) → ltb (bad_of old rows cols list) (length list / width_of old) ≡ bad
-        → unless (not whole) (Records (length list / width_of old)) (unless bad (Records (bad_of old rows cols list)) Fine) ≡ Bad r → Fault old rows cols list r
+        → unless (not whole) (Records (length list / width_of old)) (unless bad (Records (bad_of old rows cols list)) (Ok tt)) ≡ Err r → Fault old rows cols list r
     go false w bad q e = record { index = length list / width_of old; refusal = cc; reason = tests_say old rows cols list (length list / width_of old) (inl (w, refl)) }
     go true w true q e = record { index = bad_of old rows cols list; refusal = cc; reason = tests_say old rows cols list (bad_of old rows cols list) (inr (w, q, refl)) }
     go true w false q e = let never : ◌≡◌ {A = ℕ} 0 1 = cc in absurd (not_records never)
@@ -115,7 +113,7 @@ bad-is old rows cols list i f = go (ltb i (bad_of old rows cols list)) refl (ltb
     go false p false q = omega (arith, ltb-false i (bad_of old rows cols list) p, ltb-false (bad_of old rows cols list) i q)
 
 -- and a list with such a fault is refused with it
-pub fault_refused : (old : Bool) (rows cols : ℕ) (list : List ℕ) (i : ℕ) → WrongLength old list i ⊎ FirstBad old rows cols list i → first_of (records_checks old rows cols list) ≡ Bad (Records i)
+pub fault_refused : (old : Bool) (rows cols : ℕ) (list : List ℕ) (i : ℕ) → WrongLength old list i ⊎ FirstBad old rows cols list i → first_of (records_checks old rows cols list) ≡ Err (Records i)
 unfolding first_of unless
 fault_refused old rows cols list i (inl f) = rw (ne_eqb (length list % width_of old) 0 f.broken, f.count)
 fault_refused old rows cols list i (inr f) =
@@ -132,7 +130,7 @@ module _ (old : Bool) (s : Set) (rows cols : ℕ) (list out : List ℕ) where
   checks = join_checks old s rows cols list (length out)
 
   -- a refusal writes nothing
-  pub refused_keeps : (r : Refusal) → after.answer ≡ Refused r → after.buffer ≡ out
+  pub refused_keeps : (r : Refusal) → after.answer ≡ Err r → after.buffer ≡ out
   unfolding join_by
   refused_keeps r e = buffer-kept old _ s list out r e
 
@@ -148,31 +146,31 @@ module _ (old : Bool) (s : Set) (rows cols : ℕ) (list out : List ℕ) where
 
   -- ---- its refusals
 
-  refused : (r : Refusal) → after.answer ≡ Refused r → first_of checks ≡ Bad r
+  refused : (r : Refusal) → after.answer ≡ Err r → first_of checks ≡ Err r
   unfolding join_by
   refused r e = answer-refused old _ s list out r e
 
   -- a refusal that is answered is the first that holds, in the order of the checks: 1, 4, 5 for the length, 5 for a record, 6
-  pub refused-first : (r : Refusal) → after.answer ≡ Refused r → First checks r
+  pub refused-first : (r : Refusal) → after.answer ≡ Err r → First checks r
   refused-first r e = order.first-refused checks r (refused r e)
 
   -- and the first that holds is answered
-  pub first_answered : (r : Refusal) → First checks r → after.answer ≡ Refused r
+  pub first_answered : (r : Refusal) → First checks r → after.answer ≡ Err r
   unfolding join_by joined
   first_answered r f = rw (order.refused-first checks r f)
 
   -- a call that answers a count has no check that holds
-  pub counted_none : (n : ℕ) → after.answer ≡ Count n → (k : ℕ) → said_at checks k ≡ Fine
+  pub counted_none : (n : ℕ) → after.answer ≡ Ok n → (k : ℕ) → said_at checks k ≡ Ok tt
   unfolding join_by
   counted_none n e = order.first_fine checks (answer_counted old _ s list out n e)
 
   -- and a call with no check that holds answers the record count
-  pub none_counted : ((k : ℕ) → said_at checks k ≡ Fine) → after.answer ≡ Count (length list / width_of old)
+  pub none_counted : ((k : ℕ) → said_at checks k ≡ Ok tt) → after.answer ≡ Ok (length list / width_of old)
   unfolding join_by joined
   none_counted h = rw (order.fine-first checks h)
 
   -- the index of refusal 5: the whole record count where the length is at fault, which is looked at first, else that of the first bad record
-  pub bad-index : (i : ℕ) → after.answer ≡ Refused (Records i) → WrongLength old list i ⊎ FirstBad old rows cols list i
+  pub bad-index : (i : ℕ) → after.answer ≡ Err (Records i) → WrongLength old list i ⊎ FirstBad old rows cols list i
   unfolding join_checks
   bad-index i e =
       tests_say old rows cols list i

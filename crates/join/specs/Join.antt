@@ -1,16 +1,13 @@
 -- What the join answers, and what it leaves in the buffer, as one value of its input. Definitions only.
-use Rattle.std.specs.Prelude.{ℕ, zero, suc, ◌*◌, ◌/◌, ◌%◌, ◌≤◌, ◌<◌, Bool, true, false, not, cond, List, [], ◌∷◌, ◌++◌, length, drop, ltb, eqb}
+use Rattle.std.specs.Prelude.{ℕ, zero, suc, ◌*◌, ◌/◌, ◌%◌, ◌≤◌, ◌<◌, Bool, true, false, not, cond, List, [], ◌∷◌, ◌++◌, length, drop, ltb, eqb, Result, Ok, Err, ⊤}
 use Rattle.tables.specs.declared.Set.{Set}
+use Rattle.tables.specs.declared.Refusal.{Refusal}
 use Rattle.tables.specs.declared.Refusal.TheVariants.{Records, Room}
-use Rattle.tables.specs.declared.Checked.{Checked}
-use Rattle.tables.specs.declared.Checked.TheVariants.{Fine, Bad}
 use Rattle.tables.specs.Refusal.{Check, ◌when◌, first_of, sides_check, set_check}
 use Rattle.record.specs.declared.Record.{Record}
 use Rattle.record.specs.Readable.{readable}
 use Rattle.sized.specs.Sized.{Placed}
 use Rattle.join.specs.Forms.{width_of, sized_width_of, record_in, sized_in}
-use Rattle.join.specs.declared.Joined.{Joined}
-use Rattle.join.specs.declared.Joined.TheVariants.{Count, Refused}
 
 -- n records of a list's bytes, from the i-th on
 unfoldable pub records_from : Bool → List ℕ → ℕ → ℕ → List Record
@@ -56,11 +53,11 @@ sized_all old s (r ∷ rs) = sized_in old s r ++ sized_all old s rs
 
 -- an answer, and the whole buffer after it
 pub record Outcome : Type 0 where
-  pub answer : Joined
+  pub answer : Result ℕ Refusal
   pub buffer : List ℕ
 
 -- these two, given one by one
-abbrev pub outcome : Joined → List ℕ → Outcome
+abbrev pub outcome : Result ℕ Refusal → List ℕ → Outcome
 outcome a b = record { answer = a; buffer = b }
 
 -- the sized records first, then the bytes that were there
@@ -68,9 +65,9 @@ unfoldable pub laid_sized : Bool → Set → List ℕ → List ℕ → List ℕ
 laid_sized old s b out = let sized = sized_all old s (records_of old b) in sized ++ drop (length sized) out
 
 -- a refusal writes nothing; otherwise the record count is answered, and the bytes past the sized records are kept
-unfoldable pub joined : Bool → Checked → Set → List ℕ → List ℕ → Outcome
-joined old (Bad r) s b out = outcome (Refused r) out
-joined old Fine s b out = outcome (Count (length b / width_of old)) (laid_sized old s b out)
+unfoldable pub joined : Bool → Result ⊤ Refusal → Set → List ℕ → List ℕ → Outcome
+joined old (Err r) s b out = outcome (Err r) out
+joined old (Ok _) s b out = outcome (Ok (length b / width_of old)) (laid_sized old s b out)
 
 -- the whole of the join, of an old list or a present one
 unfoldable pub join_by : Bool → Set → ℕ → ℕ → List ℕ → List ℕ → Outcome

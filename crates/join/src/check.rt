@@ -4,48 +4,52 @@ ghost use Rattle.tables.specs.Refusal.{first_of};
 ghost use Rattle.join.specs.Forms.{width_of};
 ghost use Rattle.join.specs.Join.{first_bad, join_checks};
 
-use crate::forms;
-use tables::{Checked, Refusal, Set};
+use crate::forms::{self, Form};
+use tables::{Refusal, Set};
 
 // The index of the first record that is not readable; their number where each is.
-pub fn first_bad(old: bool, rows: usize, cols: usize, list: &[u8]) -> usize
+pub fn first_bad<F: Form>(rows: usize, cols: usize, list: &[u8]) -> usize
     requires rows_bound { rows ≤ 4096 }
     requires cols_bound { cols ≤ 4096 }
-    ensures { result ≡ first_bad «old» rows cols list.now (length list.now / width_of «old») 0 }
+    ensures { result ≡ first_bad F.is_old rows cols list.now (length list.now / width_of F.is_old) 0 }
 {
-    let count = forms::count_of(old, list.len());
-    let mut i: usize = 0;
-    while i < count {
-        if !record::is_readable(rows, cols, forms::record_in(old, list, i)) {
+    let count = forms::count_of::<F>(list.len());
+    for i in 0..count {
+        if !record::is_readable(rows, cols, F::record_in(list, i)) {
             return i;
         }
-        i += 1;
     }
-    i
+    count
 }
 
 // Of the join's checks, in its order (1, 4, 5 for the length, 5 for a record, 6), the first that holds is answered.
-pub fn checked(old: bool, set: Set, rows: usize, cols: usize, list: &[u8], room: usize) -> Checked
-    ensures { result ≡ first_of (join_checks «old» set rows cols list.now room) }
+pub fn checked<F: Form>(
+    set: Set,
+    rows: usize,
+    cols: usize,
+    list: &[u8],
+    room: usize,
+) -> Result<(), Refusal>
+    ensures { result ≡ first_of (join_checks F.is_old set rows cols list.now room) }
 {
     if (4096 < rows) | (4096 < cols) {
-        return Checked::Bad(Refusal::Size);
+        return Err(Refusal::Size);
     }
     let good = tables::is_good(set);
-    let count = forms::count_of(old, list.len());
-    let whole = forms::is_whole(old, list.len());
+    let count = forms::count_of::<F>(list.len());
+    let whole = forms::is_whole::<F>(list.len());
     if !good {
-        return Checked::Bad(Refusal::BadSet);
+        return Err(Refusal::BadSet);
     }
     if !whole {
-        return Checked::Bad(Refusal::Records(count));
+        return Err(Refusal::Records(count));
     }
-    let bad = first_bad(old, rows, cols, list);
+    let bad = first_bad::<F>(rows, cols, list);
     if bad < count {
-        return Checked::Bad(Refusal::Records(bad));
+        return Err(Refusal::Records(bad));
     }
-    if forms::is_short(old, count, room) {
-        return Checked::Bad(Refusal::Room);
+    if forms::is_short::<F>(count, room) {
+        return Err(Refusal::Room);
     }
-    Checked::Fine
+    Ok(())
 }

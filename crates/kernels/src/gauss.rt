@@ -16,15 +16,13 @@ fn count(n: usize) -> f32
 fn ceil(x: f32) -> usize
     ensures { result ≡ ceil_of x }
 {
-    let mut n: usize = 0;
-    while n < 16 {
+    for n in 0..16 {
         let y = count(n);
         if !(y < x) {
             return n;
         }
-        n += 1;
     }
-    n
+    16
 }
 
 // The weight at place i of the full kernel.
@@ -43,10 +41,8 @@ fn sum(sigma: f32, radius: usize) -> f32
 {
     let n = 2 * radius + 1;
     let mut s: f32 = 0.0;
-    let mut i: usize = 0;
-    while i < n {
+    for i in 0..n {
         s = s + weight(sigma, radius, i);
-        i += 1;
     }
     s
 }
@@ -69,10 +65,8 @@ fn taps(sigma: f32, radius: usize) -> [f32; 17]
 {
     let total = sum(sigma, radius);
     let mut a: [f32; 17] = [0.0; 17];
-    let mut t: usize = 0;
-    while t < 17 {
+    for t in 0..17 {
         a[t] = tap(sigma, radius, total, t);
-        t += 1;
     }
     a
 }

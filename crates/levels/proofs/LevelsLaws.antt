@@ -1,4 +1,5 @@
 -- What the checks of levels leave to know, what a call leaves in its buffers, and its refusals. Assumes nothing.
+use Rattle.std.specs.Prelude.{Result, Ok, Err, ⊤}
 use Prim.Native.Nat.{ℕ, ◌+◌, ◌*◌, ◌≤◌, ◌<◌}
 use native.Mathlib.Nat.{mul_comm}
 use native.Mathlib.Omega.{arith}
@@ -12,8 +13,6 @@ use borrow.Author.Tests.{ltb-false, eqb-true, not-false}
 use Rattle.float.proofs.Bools.{neither}
 use Rattle.tables.specs.declared.Set.{Set}
 use Rattle.tables.specs.declared.Refusal.{Refusal}
-use Rattle.tables.specs.declared.Checked.{Checked}
-use Rattle.tables.specs.declared.Checked.TheVariants.{Fine, Bad}
 use Rattle.tables.specs.Set.{good}
 use Rattle.tables.specs.Refusal.{Check, first_of, said_at, First}
 use Rattle.tables.proofs.RefusalLaws as order
@@ -26,7 +25,6 @@ use Rattle.kernels.specs.Kernel.{kernels_of}
 use Rattle.blur.specs.Blur.{level_of, level_at}
 use Rattle.blur.specs.Passes.{Plane}
 use Rattle.blur.proofs.LevelLaws.{length-level, level_pixel}
-use Rattle.levels.specs.declared.Blurred.TheVariants.{Made, Refused}
 use Rattle.levels.specs.Levels.{levels_checks, Outcome, outcome, placed, made, levels_of}
 
 -- what no check refuses
@@ -36,7 +34,7 @@ pub record Passed (n n0 n1 n2 n3 rows cols octave : ℕ) (s : Set) : Type 0 wher
   pub octave-most : octave ≤ 5
   pub good-set : good s ≡ true
 
-pub checks_passed : (n n0 n1 n2 n3 rows cols octave : ℕ) (s : Set) → first_of (levels_checks n n0 n1 n2 n3 rows cols octave s) ≡ Fine → Passed n n0 n1 n2 n3 rows cols octave s
+pub checks_passed : (n n0 n1 n2 n3 rows cols octave : ℕ) (s : Set) → first_of (levels_checks n n0 n1 n2 n3 rows cols octave s) ≡ Ok tt → Passed n n0 n1 n2 n3 rows cols octave s
 unfolding levels_checks first_of
 checks_passed n n0 n1 n2 n3 rows cols octave s h =
     let sides = unless-fine _ _ _ h in
@@ -92,29 +90,29 @@ module _ (s : Set) (rows cols octave : ℕ) (raw : List Float) (n : ℕ) (out : 
 -- ---- over the outcome of the checks
 
 module _ (s : Set) (rows cols octave : ℕ) (raw l0 l1 l2 l3 : List Float) where
-  abbrev left : Checked → Outcome
+  abbrev left : Result ⊤ Refusal → Outcome
   left w = made w s rows cols octave raw l0 l1 l2 l3
 
-  answer-refused : (w : Checked) (r : Refusal) → (left w).answer ≡ Refused r → w ≡ Bad r
+  answer-refused : (w : Result ⊤ Refusal) (r : Refusal) → (left w).answer ≡ Err r → w ≡ Err r
   unfolding made
-  answer-refused (Bad q) r e = cc
-  answer-refused Fine r e = cc
+  answer-refused (Err q) r e = cc
+  answer-refused (Ok _) r e = cc
 
-  answer-made : (w : Checked) → (left w).answer ≡ Made → w ≡ Fine
+  answer-made : (w : Result ⊤ Refusal) → (left w).answer ≡ Ok tt → w ≡ Ok tt
   unfolding made
-  answer-made (Bad q) e = cc
-  answer-made Fine e = refl
+  answer-made (Err q) e = cc
+  answer-made (Ok _) e = refl
 
-  kept : (w : Checked) (r : Refusal) → (left w).answer ≡ Refused r → left w ≡ outcome (Refused r) l0 l1 l2 l3
+  kept : (w : Result ⊤ Refusal) (r : Refusal) → (left w).answer ≡ Err r → left w ≡ outcome (Err r) l0 l1 l2 l3
   unfolding made
-  kept (Bad q) r e = let same : q ≡ r = cc in rw same
-  kept Fine r e = cc
+  kept (Err q) r e = let same : q ≡ r = cc in rw same
+  kept (Ok _) r e = cc
 
-  all_made : (w : Checked) → (left w).answer ≡ Made
-      → left w ≡ outcome Made (placed s rows cols octave raw 0 l0) (placed s rows cols octave raw 1 l1) (placed s rows cols octave raw 2 l2) (placed s rows cols octave raw 3 l3)
+  all_made : (w : Result ⊤ Refusal) → (left w).answer ≡ Ok tt
+      → left w ≡ outcome (Ok tt) (placed s rows cols octave raw 0 l0) (placed s rows cols octave raw 1 l1) (placed s rows cols octave raw 2 l2) (placed s rows cols octave raw 3 l3)
   unfolding made
-  all_made (Bad q) e = cc
-  all_made Fine e = refl
+  all_made (Err q) e = cc
+  all_made (Ok _) e = refl
 
 -- ---- a call
 
@@ -126,32 +124,32 @@ module _ (s : Set) (rows cols octave : ℕ) (raw l0 l1 l2 l3 : List Float) where
   after = levels_of s rows cols octave raw l0 l1 l2 l3
 
   -- where the levels are made, each buffer has its level at its start
-  pub made-is : after.answer ≡ Made
-      → after ≡ outcome Made (placed s rows cols octave raw 0 l0) (placed s rows cols octave raw 1 l1) (placed s rows cols octave raw 2 l2) (placed s rows cols octave raw 3 l3)
+  pub made-is : after.answer ≡ Ok tt
+      → after ≡ outcome (Ok tt) (placed s rows cols octave raw 0 l0) (placed s rows cols octave raw 1 l1) (placed s rows cols octave raw 2 l2) (placed s rows cols octave raw 3 l3)
   unfolding levels_of
   made-is e = all_made s rows cols octave raw l0 l1 l2 l3 _ e
 
   -- a refusal that is answered is the first that holds, in the order of the checks: 1, 2, 3, 4, 6
-  pub refused-first : (r : Refusal) → after.answer ≡ Refused r → First checks r
+  pub refused-first : (r : Refusal) → after.answer ≡ Err r → First checks r
   unfolding levels_of
   refused-first r e = order.first-refused checks r (answer-refused s rows cols octave raw l0 l1 l2 l3 _ r e)
 
   -- and the first that holds is answered
-  pub first_answered : (r : Refusal) → First checks r → after.answer ≡ Refused r
+  pub first_answered : (r : Refusal) → First checks r → after.answer ≡ Err r
   unfolding levels_of made
   first_answered r f = rw (order.refused-first checks r f)
 
   -- a refusal writes nothing
-  pub refused_keeps : (r : Refusal) → after.answer ≡ Refused r → after ≡ outcome (Refused r) l0 l1 l2 l3
+  pub refused_keeps : (r : Refusal) → after.answer ≡ Err r → after ≡ outcome (Err r) l0 l1 l2 l3
   unfolding levels_of
   refused_keeps r e = kept s rows cols octave raw l0 l1 l2 l3 _ r e
 
   -- a call that makes the levels has no check that holds
-  pub made_none : after.answer ≡ Made → (k : ℕ) → said_at checks k ≡ Fine
+  pub made_none : after.answer ≡ Ok tt → (k : ℕ) → said_at checks k ≡ Ok tt
   unfolding levels_of
   made_none e = order.first_fine checks (answer-made s rows cols octave raw l0 l1 l2 l3 _ e)
 
   -- and a call with no check that holds makes them
-  pub none_made : ((k : ℕ) → said_at checks k ≡ Fine) → after.answer ≡ Made
+  pub none_made : ((k : ℕ) → said_at checks k ≡ Ok tt) → after.answer ≡ Ok tt
   unfolding levels_of made
   none_made h = rw (order.fine-first checks h)

@@ -3,7 +3,7 @@ ghost use Rattle.std.specs.Prelude.{◌≡◌};
 ghost use Rattle.tables.specs.Refusal.{first_of};
 ghost use Rattle.levels.specs.Levels.{room_check, levels_checks};
 
-use tables::{Checked, Refusal, Set};
+use tables::{Refusal, Set};
 
 // Whether one of four buffers of n0 to n3 floats is shorter than n.
 fn short(n0: usize, n1: usize, n2: usize, n3: usize, n: usize) -> bool
@@ -23,25 +23,25 @@ pub fn checked(
     cols: usize,
     octave: usize,
     set: Set,
-) -> Checked
+) -> Result<(), Refusal>
     ensures { result ≡ first_of (levels_checks n n0 n1 n2 n3 rows cols octave set) }
 {
     if (4096 < rows) | (4096 < cols) {
-        return Checked::Bad(Refusal::Size);
+        return Err(Refusal::Size);
     }
     let area = rows * cols;
     let good = tables::is_good(set);
     if n != area {
-        return Checked::Bad(Refusal::Level);
+        return Err(Refusal::Level);
     }
     if 5 < octave {
-        return Checked::Bad(Refusal::Octave);
+        return Err(Refusal::Octave);
     }
     if !good {
-        return Checked::Bad(Refusal::BadSet);
+        return Err(Refusal::BadSet);
     }
     if short(n0, n1, n2, n3, area) {
-        return Checked::Bad(Refusal::Room);
+        return Err(Refusal::Room);
     }
-    Checked::Fine
+    Ok(())
 }

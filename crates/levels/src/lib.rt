@@ -8,14 +8,7 @@ ghost use Rattle.blur.specs.Passes.{Plane};
 ghost use Rattle.levels.specs.Levels.{outcome, placed, levels_of};
 
 use kernels::gauss::octave_kernel;
-use tables::{Checked, Refusal, Set};
-
-// What levels answers: made, or why it refused.
-#[derive(Clone, Copy)]
-pub enum Blurred {
-    Made,
-    Refused(Refusal),
-}
+use tables::{Refusal, Set};
 
 // Makes the levels n and n + 1 of a raw map at the starts of two buffers.
 fn two(
@@ -50,11 +43,11 @@ pub fn levels(
     l1: &mut [f32],
     l2: &mut [f32],
     l3: &mut [f32],
-) -> Blurred
+) -> Result<(), Refusal>
     ensures { outcome result l0.new l1.new l2.new l3.new
         ≡ levels_of set rows cols octave raw.now l0.old l1.old l2.old l3.old }
 {
-    let check = checks::checked(
+    checks::checked(
         raw.len(),
         l0.len(),
         l1.len(),
@@ -64,13 +57,8 @@ pub fn levels(
         cols,
         octave,
         set,
-    );
-    match check {
-        Checked::Bad(why) => Blurred::Refused(why),
-        Checked::Fine => {
-            two(set, rows, cols, octave, raw, 0, l0, l1);
-            two(set, rows, cols, octave, raw, 2, l2, l3);
-            Blurred::Made
-        }
-    }
+    )?;
+    two(set, rows, cols, octave, raw, 0, l0, l1);
+    two(set, rows, cols, octave, raw, 2, l2, l3);
+    Ok(())
 }

@@ -11,10 +11,8 @@ pub fn weigh(list: &[f32], p: usize, n: usize, w: f32, out: &mut [f32], at: usiz
     requires n_in_bounds_2 { at + n ≤ length out.old }
     ensures { Stored out.old out.new at (list_of (weighed list.now p w) n) }
 {
-    let mut i: usize = 0;
-    while i < n {
+    for i in 0..n {
         out[at + i] = list[p + i] * w;
-        i += 1;
     }
 }
 
@@ -26,10 +24,8 @@ pub fn add(list: &[f32], lo: usize, hi: usize, n: usize, w: f32, out: &mut [f32]
     ensures { Stored out.old out.new at
         (list_of (more (from out.old at) list.now lo hi w) n) }
 {
-    let mut i: usize = 0;
-    while i < n {
+    for i in 0..n {
         out[at + i] = out[at + i] + (list[lo + i] + list[hi + i]) * w;
-        i += 1;
     }
 }
 
@@ -54,12 +50,10 @@ pub fn add_two(
     ensures { Stored out.old out.new at
         (list_of (more (more (from out.old at) list.now lo hi w) list.now lo2 hi2 w2) n) }
 {
-    let mut i: usize = 0;
-    while i < n {
+    for i in 0..n {
         out[at + i] = out[at + i]
             + (list[lo + i] + list[hi + i]) * w
             + (list[lo2 + i] + list[hi2 + i]) * w2;
-        i += 1;
     }
 }
 
@@ -89,13 +83,11 @@ pub fn add_both(
         × Stored b.old b.new 16
         (list_of (more (more (from b.old 16) list.now lo hi v) list.now lo2 hi2 v2) n) }
 {
-    let mut i: usize = 0;
-    while i < n {
+    for i in 0..n {
         let s = list[lo + i] + list[hi + i];
         let s2 = list[lo2 + i] + list[hi2 + i];
         a[16 + i] = a[16 + i] + s * u + s2 * u2;
         b[16 + i] = b[16 + i] + s * v + s2 * v2;
-        i += 1;
     }
 }
 
@@ -119,14 +111,12 @@ pub fn add_four(
         (list_of (more (more (more (more (from out.old at) list.now lo hi w) list.now (lo - 1) (hi + 1) w2)
         list.now (lo - 2) (hi + 2) w3) list.now (lo - 3) (hi + 3) w4) n) }
 {
-    let mut i: usize = 0;
-    while i < n {
+    for i in 0..n {
         out[at + i] = out[at + i]
             + (list[lo + i] + list[hi + i]) * w
             + (list[lo - 1 + i] + list[hi + 1 + i]) * w2
             + (list[lo - 2 + i] + list[hi + 2 + i]) * w3
             + (list[lo - 3 + i] + list[hi + 3 + i]) * w4;
-        i += 1;
     }
 }
 
@@ -135,11 +125,7 @@ fn repeat(out: &mut [f32], at: usize, x: f32)
     requires { at + 16 ≤ length out.old }
     ensures { Stored out.old out.new at (list_of (λ i. x) 16) }
 {
-    let mut i: usize = 0;
-    while i < 16 {
-        out[at + i] = x;
-        i += 1;
-    }
+    out[at..at + 16].fill(x);
 }
 
 // The line's first float goes to the 16 places before it, its last to the 16 behind it.

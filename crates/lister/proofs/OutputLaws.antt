@@ -4,7 +4,7 @@ use native.Mathlib.Nat.{zero-add}
 use native.Mathlib.Omega.{arith}
 use mathlib.Core.Bool.{Bool, true, false}
 use mathlib.Core.Path.{◌≡◌, refl, sym, ap, ◌∙◌, subst}
-use Rattle.std.specs.Prelude.{Option, None, Some, Result, Ok, Err, IfSome, OnOk}
+use Rattle.std.specs.Prelude.{Option, None, Some, Result, Ok, Err, IfSome, OnOk, ⊤}
 use Rattle.std.specs.Io.KnownBytes.{Appends}
 use mathlib.Core.List.{List, [], ◌∷◌, ◌++◌}
 use lib.ListN.{length, take, drop, length-take, take-append-drop}
@@ -13,8 +13,6 @@ use lib.Seq.{take_all}
 use borrow.Author.Tests.{lt-ltb, le-ltb, ltb-true, ltb-false, ne_eqb}
 use Rattle.io.specs.Counts.{IsPrefixLen}
 use Rattle.tables.specs.declared.Refusal.{Refusal}
-use Rattle.tables.specs.declared.Checked.{Checked}
-use Rattle.tables.specs.declared.Checked.TheVariants.{Fine, Bad}
 use Rattle.tables.specs.Refusal.{Check, number, unless, first_of, said_at, First}
 use Rattle.tables.proofs.RefusalLaws as laws
 use Rattle.record.specs.declared.Record.{Record}
@@ -22,8 +20,6 @@ use Rattle.record.specs.Layout.{spot_width, bytes_of, written}
 use Rattle.detect.specs.Due.{due}
 use Rattle.checks.specs.Checks.{detect_checks}
 use Rattle.detect.specs.Detect.{Outcome, outcome}
-use Rattle.detect.specs.declared.Answer.{Answer}
-use Rattle.detect.specs.declared.Answer.TheVariants.{Found, Refused}
 use Rattle.detect.proofs.RefusalsLaws.{first_answered as detect-refuses, none_found as detect-finds}
 use Rattle.detect.proofs.Promise.{answer-same, first-written}
 use Rattle.text.specs.Text.{lines_of, lines_in, found_line, refused_line, Wrote}
@@ -48,19 +44,19 @@ module _ (b out o : List ℕ) where
   abbrev found : List Record
   found = due (maps_from b)
 
-  answer-told : {a : Answer} → outcome a o ≡ detect_from b out → (detect_from b []).answer ≡ a
+  answer-told : {a : Result ℕ Refusal} → outcome a o ≡ detect_from b out → (detect_from b []).answer ≡ a
   unfolding detect_from
   answer-told e = answer-same (set_from b) (thresholds_from b) (rows_from b) (cols_from b) (octave_from b) (level_from b 0) (level_from b 1) (level_from b 2) (level_from b 3) [] out ∙ sym (ap (λ (x : Outcome). x.answer) e)
 
   -- the count, and the bytes of the first 1,300 records
-  written-told : {n : ℕ} → length out ≡ 62400 → outcome (Found n) o ≡ detect_from b out → (n ≡ length found) × (take (min most_shown (length found) * spot_width) o ≡ bytes_of (take most_shown found))
+  written-told : {n : ℕ} → length out ≡ 62400 → outcome (Ok n) o ≡ detect_from b out → (n ≡ length found) × (take (min most_shown (length found) * spot_width) o ≡ bytes_of (take most_shown found))
   unfolding detect_from
   written-told {n} long e =
       let w = first-written (set_from b) (thresholds_from b) (rows_from b) (cols_from b) (octave_from b) (level_from b 0) (level_from b 1) (level_from b 2) (level_from b 3) out n (sym (ap (λ (x : Outcome). x.answer) e)) in
       let bytes : take (written found out * spot_width) o ≡ bytes_of (take (length out / spot_width) found) = ap (λ (x : Outcome). take (written found out * spot_width) x.buffer) e ∙ w.1 in
       (w.0, rw long at bytes)
 
-  lines_told : {n : ℕ} → length out ≡ 62400 → outcome (Found n) o ≡ detect_from b out → lines_in (min most_shown n) o ≡ lines_of (take most_shown found)
+  lines_told : {n : ℕ} → length out ≡ 62400 → outcome (Ok n) o ≡ detect_from b out → lines_in (min most_shown n) o ≡ lines_of (take most_shown found)
   lines_told {n} long e =
       let w = written-told long e in
       let k : ℕ = min most_shown (length found) * spot_width in
@@ -69,14 +65,14 @@ module _ (b out o : List ℕ) where
       ap (lines_in (min most_shown n)) parts ∙ rw count (lines_of_bytes (take most_shown found) (drop k o))
 
   -- what is printed where detection answers Found
-  pub tile-found : {n : ℕ} → length out ≡ 62400 → outcome (Found n) o ≡ detect_from b out → lines_in (min most_shown n) o ++ found_line n ≡ tile_output b
+  pub tile-found : {n : ℕ} → length out ≡ 62400 → outcome (Ok n) o ≡ detect_from b out → lines_in (min most_shown n) o ++ found_line n ≡ tile_output b
   unfolding tile_output printed
-  tile-found {n} long e = ap (λ (x : List ℕ). x ++ found_line n) (lines_told long e) ∙ sym (ap (λ (a : Answer). printed a found) (answer-told e))
+  tile-found {n} long e = ap (λ (x : List ℕ). x ++ found_line n) (lines_told long e) ∙ sym (ap (λ (a : Result ℕ Refusal). printed a found) (answer-told e))
 
   -- and where it refuses
-  pub tile-refused : {w : Refusal} → outcome (Refused w) o ≡ detect_from b out → refused_line (number w) ≡ tile_output b
+  pub tile-refused : {w : Refusal} → outcome (Err w) o ≡ detect_from b out → refused_line (number w) ≡ tile_output b
   unfolding tile_output printed
-  tile-refused e = sym (ap (λ (a : Answer). printed a found) (answer-told e))
+  tile-refused e = sym (ap (λ (a : Result ℕ Refusal). printed a found) (answer-told e))
 
 -- ---- refusals, case by case
 
@@ -101,21 +97,21 @@ module _ (b : List ℕ) where
   wrong_length h r c l = rw (le-ltb (length b) 560 h, le-ltb 60 (rows_from b) r, le-ltb 60 (cols_from b) c, ne_eqb (length b) (560 + 16 * area_from b) l)
 
   -- then detection's own
-  pub detection_refuses : (w : Refusal) → first_of (list_checks b) ≡ Fine → (detect_from b []).answer ≡ Refused w → list_output b ≡ refused_line (number w)
+  pub detection_refuses : (w : Refusal) → first_of (list_checks b) ≡ Ok tt → (detect_from b []).answer ≡ Err w → list_output b ≡ refused_line (number w)
   unfolding list_output checked_output tile_output printed
   detection_refuses w h e = rw (h, e)
 
   -- otherwise the first 1,300 records, and the full count
-  pub list_found : (n : ℕ) → first_of (list_checks b) ≡ Fine → (detect_from b []).answer ≡ Found n → list_output b ≡ lines_of (take most_shown (due (maps_from b))) ++ found_line n
+  pub list_found : (n : ℕ) → first_of (list_checks b) ≡ Ok tt → (detect_from b []).answer ≡ Ok n → list_output b ≡ lines_of (take most_shown (due (maps_from b))) ++ found_line n
   unfolding list_output checked_output tile_output printed
   list_found n h e = rw (h, e)
 
 -- ---- refusals: the first check that holds, the input's own before detection's
 
 -- what checks in front of others say: their first refusal, and where they are fine, the others'
-unfoldable followed : Checked → Checked → Checked
-followed (Bad r) next = Bad r
-followed Fine next = next
+unfoldable followed : Result ⊤ Refusal → Result ⊤ Refusal → Result ⊤ Refusal
+followed (Err r) next = Err r
+followed (Ok _) next = next
 
 front-first : (cs ds : List Check) → first_of (cs ++ ds) ≡ followed (first_of cs) (first_of ds)
 unfolding first_of followed unless
@@ -141,20 +137,20 @@ module _ (b : List ℕ) where
   unfolding list_output checked_output followed detect_from
   first-printed r f = go (first_of (list_checks b)) refl (sym (front-first (list_checks b) tile_checks) ∙ laws.refused-first all_checks r f)
     where
-      go : (w : Checked) → first_of (list_checks b) ≡ w → followed w (first_of tile_checks) ≡ Bad r → list_output b ≡ refused_line (number r)
-      go (Bad q) is e = let same : q ≡ r = cc in rw (is, same)
-      go Fine is e =
+      go : (w : Result ⊤ Refusal) → first_of (list_checks b) ≡ w → followed w (first_of tile_checks) ≡ Err r → list_output b ≡ refused_line (number r)
+      go (Err q) is e = let same : q ≡ r = cc in rw (is, same)
+      go (Ok _) is e =
           detection_refuses b r is
           (detect-refuses (set_from b) (thresholds_from b) (rows_from b) (cols_from b) (octave_from b) (level_from b 0) (level_from b 1) (level_from b 2) (level_from b 3) [] r (laws.first-refused tile_checks r e))
 
   -- and where no check holds, the list is printed, and its full count
-  pub none-printed : ((k : ℕ) → said_at all_checks k ≡ Fine) → list_output b ≡ lines_of (take most_shown (due (maps_from b))) ++ found_line (length (due (maps_from b)))
+  pub none-printed : ((k : ℕ) → said_at all_checks k ≡ Ok tt) → list_output b ≡ lines_of (take most_shown (due (maps_from b))) ++ found_line (length (due (maps_from b)))
   unfolding followed detect_from
   none-printed h = go (first_of (list_checks b)) refl (sym (front-first (list_checks b) tile_checks) ∙ laws.fine-first all_checks h)
     where
-      go : (w : Checked) → first_of (list_checks b) ≡ w → followed w (first_of tile_checks) ≡ Fine → list_output b ≡ lines_of (take most_shown (due (maps_from b))) ++ found_line (length (due (maps_from b)))
-      go (Bad q) is e = cc
-      go Fine is e =
+      go : (w : Result ⊤ Refusal) → first_of (list_checks b) ≡ w → followed w (first_of tile_checks) ≡ Ok tt → list_output b ≡ lines_of (take most_shown (due (maps_from b))) ++ found_line (length (due (maps_from b)))
+      go (Err q) is e = cc
+      go (Ok _) is e =
           list_found b _ is
           (detect-finds (set_from b) (thresholds_from b) (rows_from b) (cols_from b) (octave_from b) (level_from b 0) (level_from b 1) (level_from b 2) (level_from b 3) [] (laws.first_fine tile_checks e))
 

@@ -1,21 +1,19 @@
 // The list program's work on bytes: from its input to its output.
 #![tactic(auto)]
 
-ghost use Rattle.std.specs.Prelude.{◌≡◌, min, length, take, IfOk, IfSome, OnOk};
+ghost use Rattle.std.specs.Prelude.{Ok, ◌≡◌, min, length, take, IfOk, IfSome, OnOk};
 ghost use Rattle.std.specs.Io.{ReadsAtMost};
 ghost use Rattle.std.specs.Io.KnownBytes.{Appends};
 ghost use Rattle.io.specs.Counts.{IsPrefixLen};
-ghost use Rattle.tables.specs.declared.Checked.TheVariants.{Fine};
 ghost use Rattle.tables.specs.Refusal.{first_of};
 ghost use Rattle.detect.specs.Detect.{outcome};
 ghost use Rattle.input.specs.Input.{list_checks};
 ghost use Rattle.lister.specs.Detect.{detect_from};
 ghost use Rattle.lister.specs.Output.{most_shown, tile_output, list_output, Begins};
 
-use detect::Answer;
 use std::io;
 use std::io::{Read, Write};
-use tables::Checked;
+use tables::Refusal;
 
 // How many bytes of the input are read: one more than the longest tile's.
 const INPUT: usize = 58161;
@@ -41,8 +39,8 @@ fn shown(count: usize) -> usize
 }
 
 // Detects what the input holds, with its list in the buffer out.
-fn detect_from(input: &[u8], out: &mut [u8]) -> Answer
-    requires { first_of (list_checks input.now) ≡ Fine }
+fn detect_from(input: &[u8], out: &mut [u8]) -> Result<usize, Refusal>
+    requires { first_of (list_checks input.now) ≡ Ok tt }
     ensures { outcome result out.new ≡ detect_from input.now out.old }
 {
     let rows = input::count_from(input, 548);
@@ -71,22 +69,18 @@ fn detect_from(input: &[u8], out: &mut [u8]) -> Answer
 
 // What a tile of the right length prints.
 fn list_tile(input: &[u8], out: &mut [u8; OUTPUT]) -> usize
-    requires { first_of (list_checks input.now) ≡ Fine }
+    requires { first_of (list_checks input.now) ≡ Ok tt }
     ensures { Begins out.new result (tile_output input.now) }
 {
     let mut records = [0u8; SHOWN_BYTES];
     let answer = detect_from(input, &mut records);
     match answer {
-        Answer::Found(count) => {
+        Ok(count) => {
             let printed = shown(count);
             let end = text::put_lines(out, 0, &records, printed);
             text::put_found(out, end, count)
         }
-        Answer::Refused(why) => text::put_refused(
-            out,
-            0,
-            tables::refusals::number_of(why) as usize,
-        ),
+        Err(why) => text::put_refused(out, 0, u32::from(why) as usize),
     }
 }
 
@@ -97,8 +91,8 @@ pub fn list(input: &[u8], out: &mut [u8; OUTPUT]) -> usize
 {
     let check = input::checked(input);
     match check {
-        Checked::Bad(why) => text::put_refused(out, 0, tables::refusals::number_of(why) as usize),
-        Checked::Fine => list_tile(input, out),
+        Err(why) => text::put_refused(out, 0, u32::from(why) as usize),
+        Ok(()) => list_tile(input, out),
     }
 }
 
@@ -108,6 +102,7 @@ fn read_full<R: Read>(from: &mut R, buf: &mut [u8]) -> io::Result<usize>
     ensures bytes { IfOk result (λ n. IfSome (R.remaining from.old) (λ xs. take n buf.new ≡ take (length buf.old) xs)) }
 {
     let mut done = 0;
+    // Stays: the reader says how many bytes a turn reads; no range counts that.
     while done < buf.len() {
         let n = from.read(&mut buf[done..])?;
         if n == 0 {

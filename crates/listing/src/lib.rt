@@ -3,27 +3,39 @@
 
 ghost use Rattle.std.specs.Prelude.{◌+◌, ◌≤◌, ◌<◌, ◌^◌};
 ghost use Rattle.record.specs.Layout.{Laid};
-ghost use Rattle.pixel.specs.Listed.{listed, both_listed};
+ghost use Rattle.pixel.specs.Listed.{listed, both_in, both_listed};
 
 use pixel::judge::listing;
-use pixel::{Frame, Verdict};
+use pixel::{Frame, Listing};
+use record::Record;
 use tables::{Set, Thresholds};
 
 // What a verdict lists goes to place n; answers the next place.
-fn emit(out: &mut [u8], n: usize, v: Verdict) -> usize
+fn emit(out: &mut [u8], n: usize, v: Option<Record>) -> usize
     requires { n < 2 ^ 32 }
     ensures { Laid out.old out.new n result (listed v) × (result ≤ n + 1) }
 {
     match v {
-        Verdict::Listed(r) => {
+        Some(r) => {
             record::put_at(out, n, r);
             n + 1
         }
-        Verdict::Nothing => n,
+        None => n,
     }
 }
 
-// What the pixel lists, from the samples at its nine places, goes to place n on: the minimum before the maximum. Answers the next place.
+// What a pixel lists goes to place n on: the minimum before the maximum. Answers the next place.
+pub fn lay_both(out: &mut [u8], n: usize, both: Listing) -> usize
+    requires { n + 2 ≤ 2 ^ 32 }
+    ensures { Laid out.old out.new n result (both_in both) }
+{
+    let low = both.low;
+    let high = both.high;
+    let m = emit(out, n, low);
+    emit(out, m, high)
+}
+
+// The same, from the samples at the pixel's nine places.
 pub fn lay_listing(
     set: Set,
     th: Thresholds,
@@ -39,9 +51,5 @@ pub fn lay_listing(
     requires n_bound { n + 2 ≤ 2 ^ 32 }
     ensures { Laid out.old out.new n result (both_listed set th f nine.now row col) }
 {
-    let both = listing(set, th, f, nine, row, col);
-    let low = both.low;
-    let high = both.high;
-    let m = emit(out, n, low);
-    emit(out, m, high)
+    lay_both(out, n, listing(set, th, f, nine, row, col))
 }

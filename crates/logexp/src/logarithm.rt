@@ -11,13 +11,11 @@ fn digits(w: u64) -> u64
 {
     let mut y = w;
     let mut f: u64 = 0;
-    let mut i: u32 = 0;
-    while i < 21 {
+    for _ in 0..21u32 {
         let s = y * y;
         let t = s >> 63;
         y = s >> (31 + t);
         f = 2 * f + t;
-        i += 1;
     }
     f
 }

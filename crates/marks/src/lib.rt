@@ -27,13 +27,10 @@ fn byte_of(keep: &[u8; 256], i: usize) -> u8
 pub fn put_line(col: usize, keep: &[u8; 256], marks: &mut [u8; 131072])
     requires col_bound { col < 4096 }
     requires by_index { (j : ℕ) → j < 256 → get_or keep.now j 0 ≤ 1 }
-    requires marks_len { length marks.old ≡ 131072 }
     ensures { Put keep.now col marks.old marks.new }
 {
-    let mut i: usize = 0;
-    while i < 32 {
+    for i in 0..32 {
         marks[i * 4096 + col] = byte_of(keep, 8 * i);
-        i += 1;
     }
 }
 

@@ -1,5 +1,6 @@
 -- The samples at the nine places around a pixel, from the offsets at which five columns lie. Nothing here stands in a promise of an entry. Definitions only.
 use Rattle.std.specs.Prelude.{ℕ, zero, suc, ◌+◌, ◌-◌, ◌≤◌, ◌<◌, List, [], ◌∷◌, length, Float}
+use Rattle.float.specs.Num.{◌⊕◌, ◌⊖◌, ◌⊗◌, f4}
 use Rattle.fit.specs.Cubic.{◌at◌}
 use Rattle.samples.specs.Level.{stencil_of}
 use Rattle.samples.specs.Four.{Four, samples_by}
@@ -41,6 +42,10 @@ nine_beside l i =
     l 0 i ∷ l 1 i ∷ l 2 i ∷ l 0 (i + 1) ∷ l 1 (i + 1) ∷ l 2 (i + 1) ∷ l 0 (i + 2) ∷ l 1 (i + 2) ∷ l 2 (i + 2) ∷ []
 
 -- ---- one level of it
+
+-- the stencil around mid of l, with the column after it at right of r, times a squared sigma
+unfoldable pub stencil_by : List Float → List Float → ℕ → ℕ → ℕ → Float → Float
+stencil_by l r left mid right square = (l at left ⊕ r at right ⊕ l at (mid - 1) ⊕ l at (mid + 1) ⊖ f4 ⊗ l at mid) ⊗ square
 
 -- a level's sample at mid, with the pixel before it at left of the same list and the one after it at right of another
 unfoldable pub sample_by : List Float → List Float → ℕ → ℕ → ℕ → Float → Float

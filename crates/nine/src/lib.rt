@@ -3,21 +3,30 @@
 #![tactic(auto)]
 
 ghost use Rattle.std.specs.Prelude.{◌≡◌, ◌+◌, ◌*◌, ◌≤◌, ◌<◌, length};
-ghost use Rattle.float.specs.Num.{◌⊗◌};
-ghost use Rattle.samples.specs.Level.{samples_of, nine_of, Within, Sized};
-ghost use Rattle.samples.specs.Four.{four_of};
-ghost use Rattle.nine.specs.Nine.{Span, Beside, sample_by, down_by, rows_of, level_nine, across_of, turned, three_of, nine_beside};
+ghost use Rattle.samples.specs.Level.{nine_at, Within};
+ghost use Rattle.samples.specs.Map.{four_in, maps_in};
+ghost use Rattle.nine.specs.Nine.{Span, Beside, stencil_by, sample_by, down_by, rows_of, level_nine, across_of, turned, three_of, nine_beside};
 
-use pixel::Frame;
+use grid::Levels;
+use samples::map::Map;
 
-// The sum of a sample's pixels, scaled by sigma squared.
-fn scaled(sum: f32, sigma: f32) -> f32
-    ensures { result ≡ sum ⊗ (sigma ⊗ sigma) }
+// The stencil around mid, whose right pixel may lie in another slice, times a squared sigma.
+pub fn stencil<'a>(
+    l: &'a [f32],
+    r: &'a [f32],
+    left: usize,
+    mid: usize,
+    right: usize,
+    square: f32,
+) -> f32
+    requires le_mid { (1 ≤ mid) × (mid + 1 < length l.now) }
+    requires left_in_bounds { (left < length l.now) × (right < length r.now) }
+    ensures { result ≡ stencil_by l.now r.now left mid right square }
 {
-    sum * (sigma * sigma)
+    (l[left] + r[right] + l[mid - 1] + l[mid + 1] - 4.0 * l[mid]) * square
 }
 
-// A level's sample, whose right pixel may lie in another slice.
+// A level's sample.
 fn sample_by<'a>(
     l: &'a [f32],
     r: &'a [f32],
@@ -30,8 +39,7 @@ fn sample_by<'a>(
     requires left_in_bounds { (left < length l.now) × (right < length r.now) }
     ensures { result ≡ sample_by l.now r.now left mid right sigma }
 {
-    let sum = l[left] + r[right] + l[mid - 1] + l[mid + 1] - 4.0 * l[mid];
-    scaled(sum, sigma)
+    stencil(l, r, left, mid, right, sigma * sigma)
 }
 
 // Three of them, one below the other.
@@ -107,17 +115,11 @@ fn turn(p: [f32; 9], q: [f32; 9], v: [f32; 9], w: [f32; 9]) -> [[f32; 4]; 9]
     ]
 }
 
-// Those of the nine places around place 1 of the middle one of three columns: u, x, y and z are the offsets of place 0 in four columns of the slices l, t that
-// in the column after them, of the slices r.
-pub fn nine_by<'a>(
-    l0: &'a [f32],
-    l1: &'a [f32],
-    l2: &'a [f32],
-    l3: &'a [f32],
-    r0: &'a [f32],
-    r1: &'a [f32],
-    r2: &'a [f32],
-    r3: &'a [f32],
+// Those of the nine places around place 1 of the middle one of three columns: u, x, y and z are the offsets of place 0 in four columns of the levels l, t that
+// in the column after them, of the levels r.
+pub fn nine_by(
+    l: &Levels,
+    r: &Levels,
     u: usize,
     x: usize,
     y: usize,
@@ -125,14 +127,13 @@ pub fn nine_by<'a>(
     t: usize,
     g: [f32; 4],
 ) -> [[f32; 4]; 9]
-    requires { Beside (four_of l0.now l1.now l2.now l3.now) (four_of r0.now r1.now r2.now r3.now) u x y z t 0 }
-    ensures { result ≡ nine_beside (three_of (four_of l0.now l1.now l2.now l3.now)
-        (four_of r0.now r1.now r2.now r3.now) u x y z t g) 0 }
+    requires { Beside (four_in l.now) (four_in r.now) u x y z t 0 }
+    ensures { result ≡ nine_beside (three_of (four_in l.now) (four_in r.now) u x y z t g) 0 }
 {
-    let p = level_nine(l0, r0, u, x, y, z, t, g[0]);
-    let q = level_nine(l1, r1, u, x, y, z, t, g[1]);
-    let v = level_nine(l2, r2, u, x, y, z, t, g[2]);
-    let w = level_nine(l3, r3, u, x, y, z, t, g[3]);
+    let p = level_nine(l.l0, r.l0, u, x, y, z, t, g[0]);
+    let q = level_nine(l.l1, r.l1, u, x, y, z, t, g[1]);
+    let v = level_nine(l.l2, r.l2, u, x, y, z, t, g[2]);
+    let w = level_nine(l.l3, r.l3, u, x, y, z, t, g[3]);
     turn(p, q, v, w)
 }
 
@@ -144,26 +145,16 @@ fn place(rows: usize, row: usize, col: usize) -> usize
     col * rows + row
 }
 
-// The samples of four levels at the nine places around (row, col), by rows.
-pub fn nine_at<'a>(
-    l0: &'a [f32],
-    l1: &'a [f32],
-    l2: &'a [f32],
-    l3: &'a [f32],
-    f: Frame,
-    sigmas: [f32; 4],
-    row: usize,
-    col: usize,
-) -> [[f32; 4]; 9]
-    requires sized { Sized f (length l0.now) (length l1.now) (length l2.now) (length l3.now) }
-    requires within { Within 2 f row col }
-    ensures { result ≡ nine_of (samples_of l0.now l1.now l2.now l3.now f.rows sigmas) row col }
+// The samples of a map at the nine places around (row, col), by rows.
+pub fn nine_at(map: &Map, row: usize, col: usize) -> [[f32; 4]; 9]
+    requires { Within 2 map.now.frame row col }
+    ensures { result ≡ nine_at (maps_in map.now) row col }
 {
-    let rows = f.rows;
+    let rows = map.frame.rows;
     let u = place(rows, row - 1, col - 2);
     let x = u + rows;
     let y = x + rows;
     let z = y + rows;
     let t = z + rows;
-    nine_by(l0, l1, l2, l3, l0, l1, l2, l3, u, x, y, z, t, sigmas)
+    nine_by(&map.levels, &map.levels, u, x, y, z, t, map.set.sigmas)
 }

@@ -1,12 +1,12 @@
 -- The join of an old list is the join as it was before displacements were kept, on every list; and an old record has the size and the home of the present one.
+use Rattle.std.specs.Prelude.{Result, Ok, Err, ⊤}
 use Prim.Native.Nat.{ℕ, zero, suc, ◌/◌}
 use mathlib.Core.Bool.{true, and-true}
 use mathlib.Core.List.{List}
 use mathlib.Core.Path.{◌≡◌, refl}
 use lib.ListN.{length}
 use Rattle.tables.specs.declared.Set.{Set}
-use Rattle.tables.specs.declared.Checked.{Checked}
-use Rattle.tables.specs.declared.Checked.TheVariants.{Fine, Bad}
+use Rattle.tables.specs.declared.Refusal.{Refusal}
 use Rattle.moves.proofs.MovesLaws.{zero_nearby}
 use Rattle.record.specs.Layout.{floats4, old_bytes, record_with, record_from, old_from}
 use Rattle.record.specs.Readable.{finite_record, readable}
@@ -38,10 +38,10 @@ module _ (s : Set) (b : List ℕ) where
   all-before zero i = refl
   all-before (suc n) i = rw (sized_before_lem i, all-before n (suc i))
 
-joined-before : (w : Checked) (s : Set) (b out : List ℕ) → joined true w s b out ≡ joined_before w s b out
+joined-before : (w : Result ⊤ Refusal) (s : Set) (b out : List ℕ) → joined true w s b out ≡ joined_before w s b out
 unfolding joined joined_before laid_sized
-joined-before (Bad r) s b out = refl
-joined-before Fine s b out = rw (all-before s b (length b / 40) 0)
+joined-before (Err r) s b out = refl
+joined-before (Ok _) s b out = rw (all-before s b (length b / 40) 0)
 
 -- On every list, set, map and buffer the join of an old list answers and leaves what the join did before displacements were kept.
 pub old_as_before : (s : Set) (rows cols : ℕ) (b out : List ℕ) → join_old_of s rows cols b out ≡ join_before s rows cols b out

@@ -1,18 +1,16 @@
 -- The join as it was before displacements were kept, for one theorem. Definitions only.
-use Rattle.std.specs.Prelude.{ℕ, zero, suc, ◌+◌, ◌*◌, ◌/◌, ◌%◌, Bool, cond, not, ◌&&◌, ◌||◌, List, [], ◌∷◌, ◌++◌, length, drop, get_or, leb, ltb, eqb, Float}
+use Rattle.std.specs.Prelude.{ℕ, zero, suc, ◌+◌, ◌*◌, ◌/◌, ◌%◌, Bool, cond, not, ◌&&◌, ◌||◌, List, [], ◌∷◌, ◌++◌, length, drop, get_or, leb, ltb, eqb, Float, Result, Ok, Err, ⊤}
 use Rattle.float.specs.Small.{finite}
 use Rattle.words.specs.Words.{word_bytes, float_bytes, word_from, float_from}
 use Rattle.whole.specs.Nearest.{nearest_of}
 use Rattle.tables.specs.declared.Set.{Set}
+use Rattle.tables.specs.declared.Refusal.{Refusal}
 use Rattle.tables.specs.declared.Refusal.TheVariants.{Records, Room}
-use Rattle.tables.specs.declared.Checked.{Checked}
-use Rattle.tables.specs.declared.Checked.TheVariants.{Fine, Bad}
 use Rattle.tables.specs.Refusal.{Check, ◌when◌, first_of, sides_check, set_check}
 use Rattle.record.specs.Readable.{on_side}
 use Rattle.size.specs.Correct.{corrected_of}
 use Rattle.sized.specs.Sized.{tail_bytes}
 use Rattle.join.specs.Join.{Outcome, outcome}
-use Rattle.join.specs.declared.Joined.TheVariants.{Count, Refused}
 
 -- the float, the word, the byte that stands k bytes behind the start of the i-th record
 abbrev pub float_at : List ℕ → ℕ → ℕ → Float
@@ -61,9 +59,9 @@ all_before s b zero i = []
 all_before s b (suc n) i = sized_before s b i ++ all_before s b n (suc i)
 
 -- a refusal writes nothing; otherwise the record count is answered, and the bytes past the sized records are kept
-unfoldable pub joined_before : Checked → Set → List ℕ → List ℕ → Outcome
-joined_before (Bad r) s b out = outcome (Refused r) out
-joined_before Fine s b out = let sized = all_before s b (length b / 40) 0 in outcome (Count (length b / 40)) (sized ++ drop (length sized) out)
+unfoldable pub joined_before : Result ⊤ Refusal → Set → List ℕ → List ℕ → Outcome
+joined_before (Err r) s b out = outcome (Err r) out
+joined_before (Ok _) s b out = let sized = all_before s b (length b / 40) 0 in outcome (Ok (length b / 40)) (sized ++ drop (length sized) out)
 
 -- the whole of it
 unfoldable pub join_before : Set → ℕ → ℕ → List ℕ → List ℕ → Outcome

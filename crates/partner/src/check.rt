@@ -4,11 +4,12 @@ ghost use Rattle.tables.specs.Refusal.{first_of};
 ghost use Rattle.join.specs.Join.{records_checks};
 ghost use Rattle.partner.specs.Partner.{partner_checks};
 
+use join::forms::Present;
 use record::SPOT_WIDTH;
-use tables::{Checked, Refusal, Set, Thresholds};
+use tables::{Refusal, Set, Thresholds};
 
 // The list's: its length is looked at before its records, and each of them is.
-fn records_checked(rows: usize, cols: usize, list: &[u8]) -> Checked
+fn records_checked(rows: usize, cols: usize, list: &[u8]) -> Result<(), Refusal>
     requires rows_bound { rows ≤ 4096 }
     requires cols_bound { cols ≤ 4096 }
     ensures { result ≡ first_of (records_checks false rows cols list.now) }
@@ -16,13 +17,13 @@ fn records_checked(rows: usize, cols: usize, list: &[u8]) -> Checked
     let count = list.len() / SPOT_WIDTH;
     let whole = list.len() % SPOT_WIDTH == 0;
     if !whole {
-        return Checked::Bad(Refusal::Records(count));
+        return Err(Refusal::Records(count));
     }
-    let bad = join::check::first_bad(false, rows, cols, list);
+    let bad = join::check::first_bad::<Present>(rows, cols, list);
     if bad < count {
-        return Checked::Bad(Refusal::Records(bad));
+        return Err(Refusal::Records(bad));
     }
-    Checked::Fine
+    Ok(())
 }
 
 // Detection's, then the list's.
@@ -37,12 +38,9 @@ pub fn checked(
     thresholds: Thresholds,
     set: Set,
     list: &[u8],
-) -> Checked
+) -> Result<(), Refusal>
     ensures { result ≡ first_of (partner_checks n0 n1 n2 n3 rows cols octave thresholds set list.now) }
 {
-    let first = checks::checked(n0, n1, n2, n3, rows, cols, octave, thresholds, set);
-    match first {
-        Checked::Bad(why) => Checked::Bad(why),
-        Checked::Fine => records_checked(rows, cols, list),
-    }
+    checks::checked(n0, n1, n2, n3, rows, cols, octave, thresholds, set)?;
+    records_checked(rows, cols, list)
 }

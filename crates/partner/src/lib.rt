@@ -8,15 +8,10 @@ ghost use Rattle.std.specs.Prelude.{◌≡◌};
 ghost use Rattle.partner.specs.Partner.{partner_of};
 
 use follow::Finding;
+use grid::Levels;
 use pixel::Frame;
-use tables::{Checked, Refusal, Set, Thresholds};
-
-// What the reader answers: what it found, or why it refused.
-#[derive(Clone, Copy)]
-pub enum Reply {
-    Found(Finding),
-    Refused(Refusal),
-}
+use samples::map::Map;
+use tables::{Refusal, Set, Thresholds};
 
 // Whether the list is the one that detection gives for the four levels, given by columns; otherwise where it first differs. Nothing is written.
 pub fn accept<'a>(
@@ -30,11 +25,11 @@ pub fn accept<'a>(
     l2: &'a [f32],
     l3: &'a [f32],
     list: &'a [u8],
-) -> Reply
+) -> Result<Finding, Refusal>
     ensures { result ≡ partner_of set thresholds rows cols octave
         l0.now l1.now l2.now l3.now list.now }
 {
-    let check = check::checked(
+    check::checked(
         l0.len(),
         l1.len(),
         l2.len(),
@@ -45,16 +40,16 @@ pub fn accept<'a>(
         thresholds,
         set,
         list,
-    );
-    match check {
-        Checked::Bad(why) => Reply::Refused(why),
-        Checked::Fine => {
-            let f = Frame {
-                rows: rows,
-                cols: cols,
-                octave: octave as u8,
-            };
-            Reply::Found(pixels::followed(l0, l1, l2, l3, f, set, thresholds, list))
-        }
-    }
+    )?;
+    let map = Map {
+        levels: Levels { l0, l1, l2, l3 },
+        frame: Frame {
+            rows,
+            cols,
+            octave: octave as u8,
+        },
+        set,
+        thresholds,
+    };
+    Ok(pixels::followed(&map, list))
 }

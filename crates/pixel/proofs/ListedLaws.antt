@@ -1,4 +1,5 @@
 -- How much a pixel lists. Assumes nothing.
+use Rattle.std.specs.Prelude.{Option, Some, None}
 use Prim.Native.Nat.{ℕ, ◌≤◌}
 use native.Mathlib.Omega.{arith}
 use mathlib.Core.Path.{◌≡◌}
@@ -11,13 +12,12 @@ use Rattle.tables.specs.declared.Thresholds.{Thresholds}
 use Rattle.pixel.specs.Verdict.{verdict_of}
 use Rattle.pixel.specs.Listed.{listed, both_listed}
 use Rattle.pixel.specs.declared.Frame.{Frame}
-use Rattle.pixel.specs.declared.Verdict.{Verdict}
-use Rattle.pixel.specs.declared.Verdict.TheVariants.{Listed, Nothing}
+use Rattle.record.specs.declared.Record.{Record}
 
-pub listed-short : (v : Verdict) → length (listed v) ≤ 1
+pub listed-short : (v : Option Record) → length (listed v) ≤ 1
 unfolding listed
-listed-short (Listed r) = omega arith
-listed-short Nothing = omega arith
+listed-short (Some r) = omega arith
+listed-short None = omega arith
 
 module _ (s : Set) (th : Thresholds) (f : Frame) (nine : List (List Float)) (row col : ℕ) where
   -- at most two records
@@ -29,6 +29,6 @@ module _ (s : Set) (th : Thresholds) (f : Frame) (nine : List (List Float)) (row
       omega (arith, length-append (listed low) (listed high), listed-short low, listed-short high)
 
   -- none where both verdicts are nothing
-  pub both_nothing : ((is_max : Bool) → verdict_of s th f nine row col is_max ≡ Nothing) → both_listed s th f nine row col ≡ []
+  pub both_nothing : ((is_max : Bool) → verdict_of s th f nine row col is_max ≡ None) → both_listed s th f nine row col ≡ []
   unfolding both_listed listed
   both_nothing h = rw (h false, h true)

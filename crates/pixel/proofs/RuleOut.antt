@@ -1,4 +1,5 @@
 -- What rules a pixel out: its own stationary point against the gates, a rival's stationary point or band end, a refusal. Assumes nothing.
+use Rattle.std.specs.Prelude.{Some, None}
 use Prim.Native.Nat.{ℕ, ◌<◌}
 use mathlib.Core.Path.{◌≡◌, refl, sym, ap, ◌∙◌, subst}
 use mathlib.Core.Logic.{inl, inr}
@@ -24,7 +25,6 @@ use Rattle.fit.specs.Owns.{owns_of}
 use Rattle.fit.specs.Owned.{owned_by}
 use Rattle.fit.specs.declared.Band.{Band}
 use Rattle.fit.specs.declared.Envelope.{Envelope}
-use Rattle.fit.specs.declared.Stationary.TheVariants.{At, Nowhere}
 use Rattle.fit.proofs.Finite.{Whole}
 use Rattle.fit.proofs.CubicLaws.{finite_curvature_finite_samples}
 use Rattle.fit.proofs.Owners.{finite_number, owner-outside}
@@ -32,12 +32,10 @@ use Rattle.fit.proofs.Polarity.{Turned, AtPolarity, at_polarity}
 use Rattle.fit.proofs.Rival.{horner_fits, stationary_reaches, low-reaches, high-reaches}
 use Rattle.refine.specs.Refine.{refine_of}
 use Rattle.refine.specs.declared.Spot.{Spot}
-use Rattle.refine.specs.declared.Refined.TheVariants.{Rejected}
 use Rattle.pixel.specs.Gate.{sigma_of, peak_of, strong_of, curved_of, gate_by, own_gate_by}
 use Rattle.pixel.specs.Verdict.{verdict_of}
 use Rattle.pixel.specs.Rules.{cubics_at, own_samples, own_cubic, own_sigma, own_peak}
 use Rattle.pixel.specs.declared.Frame.{Frame}
-use Rattle.pixel.specs.declared.Verdict.TheVariants.{Nothing}
 use Rattle.pixel.proofs.NineLaws.{cubics_place}
 use Rattle.pixel.proofs.GateLaws.{own_gates_fail}
 use Rattle.pixel.proofs.OrderLaws.{not_gated, one_loser, refused_at}
@@ -83,10 +81,10 @@ module _ (th : Thresholds) (l k g : List Float) (is_max : Bool) where
       let t = gates_turned tame h in
       subst (λ (y : Float). lt th.peak (sign_of is_max ⊗ y) ≡ true) t.value (strong_says th (peak_of envelope is_max) is_max (subst (λ (y : Float). T (fits binary32 y)) (sym t.value) (horner_fits k (sigma_of envelope is_max))) (four h).1)
 
-same_point : (x y : Float) → At x ≡ At y → x ≡ y
+same_point : (x y : Float) → Some x ≡ Some y → x ≡ y
 same_point x y e = cc
 
-no_point : (x : Float) → Nowhere ≡ At x → ⊥
+no_point : (x : Float) → None ≡ Some x → ⊥
 no_point x e = let z : false ≡ true = cc in false≢true z
 
 curved_finite : (th : Thresholds) (k : List Float) (sigma : Float) (is_max : Bool) → curved_of th k sigma is_max ≡ true → finite (curvature_of k sigma) ≡ true
@@ -116,14 +114,14 @@ module _ (th : Thresholds) (t l g : List Float) (is_max : Bool) where
   unowned_off h = contrary gates_owned h
 
   -- where the cubic has no stationary point of the polarity, or one whose tests fail, the gates fail
-  pub nowhere-off : wild th ≡ false → stationary_of cubic is_max ≡ Nowhere → passes ≡ false
+  pub nowhere-off : wild th ≡ false → stationary_of cubic is_max ≡ None → passes ≡ false
   nowhere-off tame e = go passes refl
     where
       go : (b : Bool) → passes ≡ b → b ≡ false
       go false h = refl
       go true h = absurd (no_point _ (sym e ∙ (gates_turned th l cubic g is_max tame h).point))
 
-  pub point-off : (p v : Float) → wild th ≡ false → stationary_of cubic is_max ≡ At p → v ≡ sign_of is_max ⊗ horner_of cubic p →
+  pub point-off : (p v : Float) → wild th ≡ false → stationary_of cubic is_max ≡ Some p → v ≡ sign_of is_max ⊗ horner_of cubic p →
       (owned_by l is_max && within th.low th.high p && lt th.peak v) ≡ false → passes ≡ false
   point-off p v tame e w off = contrary all off
     where
@@ -136,7 +134,7 @@ module _ (th : Thresholds) (t l g : List Float) (is_max : Bool) where
           rw (gates_owned h, window, beyond)
 
 -- those of a set's table and sigmas are the pixel's own gates, and where they fail it lists nothing
-pub gate_rules : (s : Set) (th : Thresholds) (f : Frame) (nine : List (List Float)) (row col : ℕ) (is_max : Bool) → passes th s.scale (own_samples nine) s.sigmas is_max ≡ false → verdict_of s th f nine row col is_max ≡ Nothing
+pub gate_rules : (s : Set) (th : Thresholds) (f : Frame) (nine : List (List Float)) (row col : ℕ) (is_max : Bool) → passes th s.scale (own_samples nine) s.sigmas is_max ≡ false → verdict_of s th f nine row col is_max ≡ None
 unfolding own_gate_by
 gate_rules s th f nine row col is_max h = not_gated s th f nine row col is_max (own_gates_fail s th nine is_max h)
 
@@ -147,7 +145,7 @@ own-cubic s nine h = cubics_place s.scale nine 4 h
 -- ---- a rival
 
 module _ (k : List Float) (peak : Float) (band : Band) (is_max : Bool) (held : T (fits binary32 peak)) where
-  pub rival_point : (s : Float) → stationary_of k is_max ≡ At s → lt band.low s ≡ true → lt s band.high ≡ true →
+  pub rival_point : (s : Float) → stationary_of k is_max ≡ Some s → lt band.low s ≡ true → lt s band.high ≡ true →
       T (le (sign_of is_max ⊗ peak) (sign_of is_max ⊗ horner_of k s)) → beats_cubic k peak band is_max ≡ false
   unfolding beats_cubic
   rival_point s e a b h = stationary_reaches k band.low band.high peak is_max held s e a b h
@@ -162,15 +160,15 @@ module _ (k : List Float) (peak : Float) (band : Band) (is_max : Bool) (held : T
 
 -- ---- a pixel with a stationary point p of its own
 
-module _ (s : Set) (th : Thresholds) (f : Frame) (nine : List (List Float)) (row col : ℕ) (is_max : Bool) (tame : wild th ≡ false) (p : Float) (own : stationary_of (own_cubic s nine) is_max ≡ At p) where
+module _ (s : Set) (th : Thresholds) (f : Frame) (nine : List (List Float)) (row col : ℕ) (is_max : Bool) (tame : wild th ≡ false) (p : Float) (own : stationary_of (own_cubic s nine) is_max ≡ Some p) where
   abbrev pub peak : Float
   peak = horner_of (own_cubic s nine) p
 
   -- it suffices to rule out the extreme at p, with its value
-  by-own : ((own_sigma s nine is_max ≡ p) → (own_peak s nine is_max ≡ peak) → verdict_of s th f nine row col is_max ≡ Nothing) → verdict_of s th f nine row col is_max ≡ Nothing
+  by-own : ((own_sigma s nine is_max ≡ p) → (own_peak s nine is_max ≡ peak) → verdict_of s th f nine row col is_max ≡ None) → verdict_of s th f nine row col is_max ≡ None
   by-own rest = go (gate_by ours th (own_samples nine) (own_cubic s nine) (own_sigma s nine is_max) (own_peak s nine is_max) is_max) refl
     where
-      go : (b : Bool) → gate_by ours th (own_samples nine) (own_cubic s nine) (own_sigma s nine is_max) (own_peak s nine is_max) is_max ≡ b → verdict_of s th f nine row col is_max ≡ Nothing
+      go : (b : Bool) → gate_by ours th (own_samples nine) (own_cubic s nine) (own_sigma s nine is_max) (own_peak s nine is_max) is_max ≡ b → verdict_of s th f nine row col is_max ≡ None
       go false h = not_gated s th f nine row col is_max h
       go true h =
           let t = gates_turned th (own_samples nine) (own_cubic s nine) s.sigmas is_max tame h in
@@ -181,24 +179,24 @@ module _ (s : Set) (th : Thresholds) (f : Frame) (nine : List (List Float)) (row
   abbrev pub rival : ℕ → List Float
   rival i = coeffs_of s.scale (get_or nine i [])
 
-  lost : (i : ℕ) → i < 9 → i < length nine → eqb i 4 ≡ false → beats_cubic (rival i) peak (band_of s.sigmas p) is_max ≡ false → verdict_of s th f nine row col is_max ≡ Nothing
+  lost : (i : ℕ) → i < 9 → i < length nine → eqb i 4 ≡ false → beats_cubic (rival i) peak (band_of s.sigmas p) is_max ≡ false → verdict_of s th f nine row col is_max ≡ None
   lost i b long other h =
       by-own (λ e v. one_loser s th f nine row col is_max i b long other
       (subst (λ (y : Float). beats_cubic (rival i) y (band_of s.sigmas (own_sigma s nine is_max)) is_max ≡ false) (sym v) (subst (λ (y : Float). beats_cubic (rival i) peak (band_of s.sigmas y) is_max ≡ false) (sym e) h)))
 
   module _ (i : ℕ) (b : i < 9) (long : i < length nine) (other : eqb i 4 ≡ false) where
     -- a neighbour's stationary point inside the band reaches the peak
-    pub point-rules : (q : Float) → stationary_of (rival i) is_max ≡ At q → lt (band_of s.sigmas p).low q ≡ true → lt q (band_of s.sigmas p).high ≡ true →
-        T (le (sign_of is_max ⊗ peak) (sign_of is_max ⊗ horner_of (rival i) q)) → verdict_of s th f nine row col is_max ≡ Nothing
+    pub point-rules : (q : Float) → stationary_of (rival i) is_max ≡ Some q → lt (band_of s.sigmas p).low q ≡ true → lt q (band_of s.sigmas p).high ≡ true →
+        T (le (sign_of is_max ⊗ peak) (sign_of is_max ⊗ horner_of (rival i) q)) → verdict_of s th f nine row col is_max ≡ None
     point-rules q e low high h = lost i b long other (rival_point (rival i) peak (band_of s.sigmas p) is_max (horner_fits (own_cubic s nine) p) q e low high h)
 
     -- or its value at an end of the band
-    pub low-rules : T (le (sign_of is_max ⊗ peak) (sign_of is_max ⊗ horner_of (rival i) (band_of s.sigmas p).low)) → verdict_of s th f nine row col is_max ≡ Nothing
+    pub low-rules : T (le (sign_of is_max ⊗ peak) (sign_of is_max ⊗ horner_of (rival i) (band_of s.sigmas p).low)) → verdict_of s th f nine row col is_max ≡ None
     low-rules h = lost i b long other (rival_low (rival i) peak (band_of s.sigmas p) is_max (horner_fits (own_cubic s nine) p) h)
 
-    pub high-rules : T (le (sign_of is_max ⊗ peak) (sign_of is_max ⊗ horner_of (rival i) (band_of s.sigmas p).high)) → verdict_of s th f nine row col is_max ≡ Nothing
+    pub high-rules : T (le (sign_of is_max ⊗ peak) (sign_of is_max ⊗ horner_of (rival i) (band_of s.sigmas p).high)) → verdict_of s th f nine row col is_max ≡ None
     high-rules h = lost i b long other (rival_high (rival i) peak (band_of s.sigmas p) is_max (horner_fits (own_cubic s nine) p) h)
 
   -- the refinement refuses a spot with that sigma and polarity, wherever it lies
-  pub refusal-rules : (spot : Spot) → spot.sigma ≡ p → spot.max ≡ is_max → refine_of s th.ratio (cubics_at s nine) spot ≡ Rejected → verdict_of s th f nine row col is_max ≡ Nothing
+  pub refusal-rules : (spot : Spot) → spot.sigma ≡ p → spot.max ≡ is_max → refine_of s th.ratio (cubics_at s nine) spot ≡ None → verdict_of s th f nine row col is_max ≡ None
   refusal-rules spot e m h = by-own (λ e' v. refused_at s th f nine row col is_max spot (e ∙ sym e') m h)

@@ -1,4 +1,5 @@
 -- A pixel lists a record exactly where each of the rules is met; what follows for the record. Assumes nothing.
+use Rattle.std.specs.Prelude.{Option, Some, None}
 use Prim.Native.Nat.{ℕ, ◌+◌, ◌*◌}
 use mathlib.Core.Path.{◌≡◌, refl, sym, ◌∙◌, ap, subst}
 use mathlib.Core.List.{List, []}
@@ -16,8 +17,6 @@ use Rattle.fit.specs.Envelope.{within}
 use Rattle.fit.specs.Band.{band_of}
 use Rattle.fit.specs.Owns.{owns_of}
 use Rattle.refine.specs.declared.Spot.{Spot}
-use Rattle.refine.specs.declared.Refined.{Refined}
-use Rattle.refine.specs.declared.Refined.TheVariants.{Accepted, Rejected}
 use Rattle.refine.proofs.RefineLaws.{accepted_displaced}
 use Rattle.record.specs.Readable.{readable}
 use Rattle.record.specs.declared.Record.{Record}
@@ -26,7 +25,6 @@ use Rattle.pixel.specs.Ring.{beats_by, ring_by, ring_of}
 use Rattle.pixel.specs.Verdict.{may_list, whole_of, anchor_of, polarity_of, record_of, admit_of, verdict_by, verdict_of}
 use Rattle.pixel.specs.Rules.{cubics_at, own_samples, own_cubic, own_sigma, own_peak, own_curvature, Admits}
 use Rattle.pixel.specs.declared.Frame.{Frame}
-use Rattle.pixel.specs.declared.Verdict.TheVariants.{Listed, Nothing}
 use Rattle.pixel.proofs.GateLaws.{own_gates_fail}
 use Rattle.pixel.proofs.RingLaws.{all_true, all-each}
 
@@ -34,7 +32,7 @@ use Rattle.pixel.proofs.RingLaws.{all_true, all-each}
 
 module _ (s : Set) (th : Thresholds) (f : Frame) (nine : List (List Float)) (row col : ℕ) (is_max : Bool) where
   -- where a sample is not finite nothing is listed
-  pub not-whole : whole_of nine ≡ false → verdict_of s th f nine row col is_max ≡ Nothing
+  pub not-whole : whole_of nine ≡ false → verdict_of s th f nine row col is_max ≡ None
   unfolding verdict_by
   not-whole h = rw h
 
@@ -47,29 +45,29 @@ own-fails s th nine true h = own_gates_fail s th nine true (neither (own_gate_of
 
 -- a pixel whose own gates fail lists nothing
 pub may_not_list : (s : Set) (th : Thresholds) (f : Frame) (nine : List (List Float)) (row col : ℕ) (is_max : Bool) →
-    may_list s th (get_or nine 4 []) ≡ false → verdict_of s th f nine row col is_max ≡ Nothing
+    may_list s th (get_or nine 4 []) ≡ false → verdict_of s th f nine row col is_max ≡ None
 unfolding verdict_by
 may_not_list s th f nine row col is_max h = rw (own-fails s th nine is_max h, and-false (whole_of nine))
 
 -- ---- what is listed
 
-nothing_no_record : (r : Record) → Nothing ≡ Listed r → ⊥
+nothing_no_record : (r : Record) → None ≡ Some r → ⊥
 nothing_no_record r e = let z : false ≡ true = cc in false≢true z
 
 -- what an answer of the refinement comes to, where it is listed
-record Admitted (f : Frame) (l : List Float) (key : ℕ) (answer : Refined) (r : Record) : Type 0 where
+record Admitted (f : Frame) (l : List Float) (key : ℕ) (answer : Option Spot) (r : Record) : Type 0 where
   spot : Spot
-  accepted : answer ≡ Accepted spot
+  accepted : answer ≡ Some spot
   made : r ≡ record_of spot l key
   joins : readable f.rows f.cols r ≡ true
 
-admitted : (f : Frame) (l : List Float) (key : ℕ) (answer : Refined) (r : Record) → admit_of f l key answer ≡ Listed r → Admitted f l key answer r
+admitted : (f : Frame) (l : List Float) (key : ℕ) (answer : Option Spot) (r : Record) → admit_of f l key answer ≡ Some r → Admitted f l key answer r
 unfolding admit_of
-admitted f l key (Accepted spot) r h =
-    let p = passed (readable f.rows f.cols (record_of spot l key)) (Listed (record_of spot l key)) Nothing h (nothing_no_record r) in
+admitted f l key (Some spot) r h =
+    let p = passed (readable f.rows f.cols (record_of spot l key)) (Some (record_of spot l key)) None h (nothing_no_record r) in
     let made : r ≡ record_of spot l key = let e = p.1 in cc in
     record { spot = spot; accepted = refl; made = made; joins = ap (readable f.rows f.cols) made ∙ p.0 }
-admitted f l key Rejected r h = let z : ◌≡◌ {A = Bool} false true = cc in absurd (false≢true z)
+admitted f l key None r h = let z : ◌≡◌ {A = Bool} false true = cc in absurd (false≢true z)
 
 -- what the neighbour test says of a neighbour, and of the pixel itself
 beats_neighbour : (t : Bool) (i : ℕ) → (i ≡ 4 → ⊥) → eqb i 4 || t ≡ true → t ≡ true
@@ -83,10 +81,10 @@ beats_at t i h = by (eqb i 4) refl where
 
 module _ (s : Set) (th : Thresholds) (f : Frame) (nine : List (List Float)) (row col : ℕ) (is_max : Bool) (r : Record) where
   -- a listed record meets each rule
-  pub listed_admits : verdict_of s th f nine row col is_max ≡ Listed r → Admits s th f nine row col is_max r
+  pub listed_admits : verdict_of s th f nine row col is_max ≡ Some r → Admits s th f nine row col is_max r
   unfolding verdict_by gate_by within strong_of curved_of ring_by beats_by
   listed_admits h =
-      let tests = passed _ _ Nothing h (nothing_no_record r) in
+      let tests = passed _ _ None h (nothing_no_record r) in
       let ring = both _ _ tests.0 in
       let gates = both (whole_of nine) _ ring.0 in
       let owner = both _ (owns_of (own_samples nine) is_max) gates.1 in
@@ -113,7 +111,7 @@ module _ (s : Set) (th : Thresholds) (f : Frame) (nine : List (List Float)) (row
       }
 
   -- a record that meets each rule is listed
-  pub admits_listed : Admits s th f nine row col is_max r → verdict_of s th f nine row col is_max ≡ Listed r
+  pub admits_listed : Admits s th f nine row col is_max r → verdict_of s th f nine row col is_max ≡ Some r
   unfolding verdict_by gate_by within strong_of curved_of ring_by beats_by admit_of
   admits_listed a =
       let ring : ring_of (cubics_at s nine) (own_peak s nine is_max) (band_of s.sigmas (own_sigma s nine is_max)) is_max ≡ true =
@@ -121,12 +119,12 @@ module _ (s : Set) (th : Thresholds) (f : Frame) (nine : List (List Float)) (row
       rw (a.samples_finite, a.window_low, a.window_high, a.peak_beyond, a.curvature_finite, a.curvature_sign, a.curvature_beyond, a.owned, ring, a.refinement, ← a.record_of_spot, a.join_accepts)
 
   -- a listed record's key is its pixel's
-  pub listed-key : verdict_of s th f nine row col is_max ≡ Listed r → r.key ≡ row * f.cols + col
+  pub listed-key : verdict_of s th f nine row col is_max ≡ Some r → r.key ≡ row * f.cols + col
   unfolding record_of
   listed-key h = let e = (listed_admits h).record_of_spot in cc
 
   -- its polarity is the one that was judged: the refinement keeps it
-  pub listed-polarity : verdict_of s th f nine row col is_max ≡ Listed r → r.polarity ≡ polarity_of is_max
+  pub listed-polarity : verdict_of s th f nine row col is_max ≡ Some r → r.polarity ≡ polarity_of is_max
   unfolding record_of anchor_of
   listed-polarity h =
       let a = listed_admits h in
@@ -136,9 +134,9 @@ module _ (s : Set) (th : Thresholds) (f : Frame) (nine : List (List Float)) (row
       e ∙ ap polarity_of kept
 
   -- the join accepts it
-  pub listed-readable : verdict_of s th f nine row col is_max ≡ Listed r → readable f.rows f.cols r ≡ true
+  pub listed-readable : verdict_of s th f nine row col is_max ≡ Some r → readable f.rows f.cols r ≡ true
   listed-readable h = (listed_admits h).join_accepts
 
   -- all its samples are finite, and its neighbours' too
-  pub listed-whole : verdict_of s th f nine row col is_max ≡ Listed r → whole_of nine ≡ true
+  pub listed-whole : verdict_of s th f nine row col is_max ≡ Some r → whole_of nine ≡ true
   listed-whole h = (listed_admits h).samples_finite

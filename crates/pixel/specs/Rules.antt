@@ -1,5 +1,5 @@
 -- The rules that a listed spot meets, each by itself. Definitions only.
-use Rattle.std.specs.Prelude.{ℕ, ◌+◌, ◌*◌, ◌<◌, ◌≡◌, List, [], Bool, true, cond, get_or, Float}
+use Rattle.std.specs.Prelude.{ℕ, ◌+◌, ◌*◌, ◌<◌, ◌≡◌, List, [], Bool, true, cond, get_or, Float, Some}
 use Rattle.std.specs.Float.Ieee.{lt, le, neg}
 use Rattle.float.specs.Small.{finite, abs_of}
 use Rattle.tables.specs.declared.Set.{Set}
@@ -11,7 +11,6 @@ use Rattle.fit.specs.Owns.{owns_of}
 use Rattle.fit.specs.declared.Envelope.{Envelope}
 use Rattle.refine.specs.Refine.{refine_of}
 use Rattle.refine.specs.declared.Spot.{Spot}
-use Rattle.refine.specs.declared.Refined.TheVariants.{Accepted}
 use Rattle.record.specs.Readable.{readable}
 use Rattle.record.specs.declared.Record.{Record}
 use Rattle.pixel.specs.Gate.{sigma_of, peak_of}
@@ -71,7 +70,7 @@ pub record Admits (s : Set) (th : Thresholds) (f : Frame) (nine : List (List Flo
       cond is_max (lt (band_extreme s nine is_max i) (own_peak s nine is_max)) (lt (own_peak s nine is_max) (band_extreme s nine is_max i)) ≡ true
   -- the refinement accepts a spot
   pub spot : Spot
-  pub refinement : refine_of s th.ratio (cubics_at s nine) (anchor_of row col (own_sigma s nine is_max) (own_peak s nine is_max) f.octave is_max) ≡ Accepted spot
+  pub refinement : refine_of s th.ratio (cubics_at s nine) (anchor_of row col (own_sigma s nine is_max) (own_peak s nine is_max) f.octave is_max) ≡ Some spot
   -- the record is that spot's
   pub record_of_spot : r ≡ record_of spot (own_samples nine) (row * f.cols + col)
   -- the join accepts it

@@ -1,5 +1,5 @@
 -- What a pixel lists at one polarity, from the samples at its nine places. Definitions only.
-use Rattle.std.specs.Prelude.{ℕ, ◌+◌, ◌*◌, List, [], ◌∷◌, Bool, true, false, cond, ◌&&◌, ◌||◌, pos, get_or, Float}
+use Rattle.std.specs.Prelude.{ℕ, ◌+◌, ◌*◌, List, [], ◌∷◌, Bool, true, false, cond, ◌&&◌, ◌||◌, pos, get_or, Float, Option, Some, None}
 use Rattle.std.specs.Float.{binary32}
 use Rattle.std.specs.Float.Ieee.{of_int}
 use Rattle.float.specs.Small.{finite}
@@ -13,15 +13,11 @@ use Rattle.fit.specs.Envelope.{shape_by}
 use Rattle.fit.specs.Band.{band_by}
 use Rattle.refine.specs.Refine.{refine_by}
 use Rattle.refine.specs.declared.Spot.{Spot}
-use Rattle.refine.specs.declared.Refined.{Refined}
-use Rattle.refine.specs.declared.Refined.TheVariants.{Accepted, Rejected}
 use Rattle.record.specs.Readable.{readable}
 use Rattle.record.specs.declared.Record.{Record}
 use Rattle.pixel.specs.Gate.{sigma_of, peak_of, gate_by, own_gate_of}
 use Rattle.pixel.specs.Ring.{ring_by}
 use Rattle.pixel.specs.declared.Frame.{Frame}
-use Rattle.pixel.specs.declared.Verdict.{Verdict}
-use Rattle.pixel.specs.declared.Verdict.TheVariants.{Listed, Nothing}
 
 -- the pixel may list a minimum or a maximum
 unfoldable pub may_list : Set → Thresholds → List Float → Bool
@@ -71,13 +67,13 @@ record_of spot l key = record {
 }
 
 -- an accepted spot's record is listed where the join accepts it, so that each of its floats is finite
-unfoldable pub admit_of : Frame → List Float → ℕ → Refined → Verdict
-admit_of f l key (Accepted spot) = cond (readable f.rows f.cols (record_of spot l key)) (Listed (record_of spot l key)) Nothing
-admit_of f l key Rejected = Nothing
+unfoldable pub admit_of : Frame → List Float → ℕ → Option Spot → Option Record
+admit_of f l key (Some spot) = cond (readable f.rows f.cols (record_of spot l key)) (Some (record_of spot l key)) None
+admit_of f l key None = None
 
 -- The verdict on the pixel (row, col) at one polarity: nine holds the samples at its nine places by rows, its own at 4. All samples are finite, the
 -- pixel's own gates pass, its peak beats the eight neighbours, and the refinement accepts. P 4 are the choices of zeros at the pixel.
-unfoldable pub verdict_by : (ℕ → Prims) → Set → Thresholds → Frame → List (List Float) → ℕ → ℕ → Bool → Verdict
+unfoldable pub verdict_by : (ℕ → Prims) → Set → Thresholds → Frame → List (List Float) → ℕ → ℕ → Bool → Option Record
 verdict_by P s th f nine row col is_max =
     let k = cubics_of s.scale nine in
     let l = get_or nine 4 [] in
@@ -87,7 +83,7 @@ verdict_by P s th f nine row col is_max =
     cond
     (whole_of nine && gate_by (P 4) th l (get_or k 4 []) sigma peak is_max && ring_by P k peak (band_by (P 4) s.sigmas sigma) is_max)
     (admit_of f l (row * f.cols + col) (refine_by (P 4) s th.ratio k (anchor_of row col sigma peak f.octave is_max)))
-    Nothing
+    None
 
-abbrev pub verdict_of : Set → Thresholds → Frame → List (List Float) → ℕ → ℕ → Bool → Verdict
+abbrev pub verdict_of : Set → Thresholds → Frame → List (List Float) → ℕ → ℕ → Bool → Option Record
 verdict_of = verdict_by (λ i. ours)

@@ -15,16 +15,9 @@ pub struct Frame {
     pub octave: u8,
 }
 
-// What a pixel lists at one polarity.
-#[derive(Clone, Copy)]
-pub enum Verdict {
-    Listed(Record),
-    Nothing,
-}
-
 // What a pixel lists at both polarities: the minimum and the maximum.
 #[derive(Clone, Copy)]
 pub struct Listing {
-    pub low: Verdict,
-    pub high: Verdict,
+    pub low: Option<Record>,
+    pub high: Option<Record>,
 }

@@ -1,10 +1,10 @@
 -- Each inner function's answer as one number, of plain numbers and the record of a set. Definitions only.
-use Rattle.std.specs.Prelude.{ℕ, ◌+◌, List, [], ◌∷◌, Bool, cond, pos, Float}
+use Rattle.std.specs.Prelude.{ℕ, ◌+◌, List, [], ◌∷◌, Bool, cond, pos, Float, Result, Ok, Err}
 use Rattle.std.specs.Float.{binary32}
 use Rattle.std.specs.Float.Ieee.{of_int, neg}
 use Rattle.float.specs.Num.{f0, f1, f2, f4}
 use Rattle.tables.specs.declared.Set.{Set}
-use Rattle.tables.specs.Refusal.{read_set_of}
+use Rattle.tables.specs.Refusal.{read_or_blank}
 use Rattle.fit.specs.declared.Envelope.{Envelope}
 use Rattle.fit.specs.Cubic.{◌at◌, coeffs_of}
 use Rattle.fit.specs.Band.{band_of}
@@ -16,14 +16,12 @@ use Rattle.refine.specs.Refine.{index_of, spatial_of}
 use Rattle.refine.specs.Lend.{lent_of}
 use Rattle.profile.specs.declared.Absence.{Absence}
 use Rattle.profile.specs.declared.Absence.TheVariants.{Samples, Quotients, Line, Energy}
-use Rattle.profile.specs.declared.Statistic.{Statistic}
-use Rattle.profile.specs.declared.Statistic.TheVariants.{Value, Absent}
 use Rattle.profile.specs.Profile.{statistic_of}
 use Rattle.size.specs.Correct.{f3, geometry_of, beta_of, blend_beta_of, bounded_of, model_move_of}
 
 -- the set that a record holds; of zeros where the record is refused
 unfoldable pub held : List ℕ → Set
-held b = (read_set_of b).set
+held b = read_or_blank b
 
 -- the i-th coefficient of the cubic in log2 of sigma, or of the one in sigma
 unfoldable pub cubic_of : List ℕ → Bool → List Float → ℕ → Float
@@ -87,13 +85,13 @@ minus_of Line = neg f3
 minus_of Energy = neg f4
 
 -- a statistic's number, which is never below 0; where it is absent, what its cause gives
-unfoldable pub number_of : Statistic → Float
-number_of (Value x) = x
-number_of (Absent why) = minus_of why
+unfoldable pub number_of : Result Float Absence → Float
+number_of (Ok x) = x
+number_of (Err why) = minus_of why
 
 -- the statistic with this number, or none: for which cause is all one to the part of a step
-unfoldable pub given_of : Bool → Float → Statistic
-given_of present x = cond present (Value x) (Absent Samples)
+unfoldable pub given_of : Bool → Float → Result Float Absence
+given_of present x = cond present (Ok x) (Err Samples)
 
 -- the profile statistic of four samples
 unfoldable pub statistic_part : List ℕ → List Float → Float

@@ -1,35 +1,10 @@
 // The kernels, and two levels by kernels given.
 ghost use Rattle.std.specs.Prelude.{◌≡◌, ◌≤◌};
 ghost use Rattle.kernels.specs.Kernel.{gaussian_of, kernel_to};
-ghost use Rattle.probe.specs.Blurs.{first_seventeen, kernel_part, misfits, blur_left, blur_face};
+ghost use Rattle.probe.specs.Blurs.{kernel_part, misfits, blur_left, blur_face};
 
 use crate::parts;
 use kernels::Kernel;
-
-// The first 17 of the values.
-fn seventeen(v: &[f32]) -> [f32; 17]
-    ensures { result ≡ first_seventeen v.now }
-{
-    [
-        parts::number_at(v, 0),
-        parts::number_at(v, 1),
-        parts::number_at(v, 2),
-        parts::number_at(v, 3),
-        parts::number_at(v, 4),
-        parts::number_at(v, 5),
-        parts::number_at(v, 6),
-        parts::number_at(v, 7),
-        parts::number_at(v, 8),
-        parts::number_at(v, 9),
-        parts::number_at(v, 10),
-        parts::number_at(v, 11),
-        parts::number_at(v, 12),
-        parts::number_at(v, 13),
-        parts::number_at(v, 14),
-        parts::number_at(v, 15),
-        parts::number_at(v, 16),
-    ]
-}
 
 // The i-th of a kernel's numbers: the radius, then the taps.
 fn part(k: Kernel, i: usize) -> f32
@@ -105,11 +80,11 @@ pub fn probe_blur(
     }
     let j = Kernel {
         radius: radius,
-        taps: seventeen(taps),
+        taps: parts::numbers(taps, 0),
     };
     let k = Kernel {
         radius: radius2,
-        taps: seventeen(taps2),
+        taps: parts::numbers(taps2, 0),
     };
     blur::two_levels(raw, rows, cols, j, k, x, y);
     true

@@ -39,7 +39,7 @@ pub fn probe_band(set: &[u8], sigma: f32, high: bool) -> f32
     let held = parts::held_in(set);
     let sigmas = held.sigmas;
     let band = fit::scale_fit::neighbor_scale_band(sigmas, sigma);
-    parts::pick(high, band.high, band.low)
+    fit::pick(high, band.high, band.low)
 }
 
 pub fn probe_extreme(a: f32, b: f32, c: f32, d: f32, low: f32, high: f32, is_max: bool) -> f32
@@ -85,7 +85,11 @@ pub fn probe_index(set: &[u8], sigma: f32) -> u8
 pub fn probe_spatial(set: &[u8], index: u8, values: &[f32], i: usize) -> f32
     ensures { result ≡ spatial_part set.now index values.now i }
 {
-    let w = refine::refine::fit_spatial_quadratic(parts::held_in(set), index, parts::nine(values));
+    let w = refine::refine::fit_spatial_quadratic(
+        parts::held_in(set),
+        index,
+        parts::numbers(values, 0),
+    );
     parts::number_at(&w, i)
 }
 

@@ -1,12 +1,13 @@
 // What the exported functions share: the set of a record, lists of numbers and one number of a list.
-ghost use Rattle.std.specs.Prelude.{◌≡◌, cond, ◌≤◌, pos};
+ghost use Rattle.std.specs.Prelude.{◌≡◌, cond, ◌+◌, ◌≤◌, pos, map};
+ghost use Rattle.std.specs.List.{range_with_len};
 ghost use Rattle.std.specs.Float.{binary32};
 ghost use Rattle.std.specs.Float.Ieee.{of_int};
 ghost use Rattle.fit.specs.Cubic.{◌at◌, coeffs_of};
-ghost use Rattle.probe.specs.Probe.{held, parts_of, first_nine, four_of, nine_fours, fresh_of, leaves_of, minus_of, number_of, given_of};
+ghost use Rattle.probe.specs.Probe.{held, parts_of, nine_fours, fresh_of, leaves_of, minus_of, number_of, given_of};
 
-use fit::Envelope;
-use profile::{Absence, Statistic};
+use fit::{Envelope, pick};
+use profile::Absence;
 use refine::Spot;
 use refine::lend::Settled;
 use tables::Set;
@@ -15,14 +16,7 @@ use tables::Set;
 pub fn held_in(bytes: &[u8]) -> Set
     ensures { result ≡ held bytes.now }
 {
-    let read = tables::read_set(bytes);
-    read.set
-}
-
-pub fn pick(test: bool, x: f32, y: f32) -> f32
-    ensures { result ≡ cond test x y }
-{
-    if test { x } else { y }
+    tables::read_or_blank(bytes)
 }
 
 // The i-th of the numbers; NaN past the end.
@@ -50,34 +44,16 @@ pub fn parts_of(e: Envelope) -> [f32; 4]
     [e.emin, e.emax, e.smin, e.smax]
 }
 
-// The first nine of the values.
-pub fn nine(values: &[f32]) -> [f32; 9]
-    ensures { result ≡ first_nine values.now }
+// N of the numbers, from the i-th on; NaN for what is missing.
+pub fn numbers<const N: usize>(list: &[f32], i: usize) -> [f32; N]
+    requires { (i ≤ 32) × (N ≤ 32) }
+    ensures { result ≡ map (λ j. list.now at (i + j)) (range_with_len 0 N) }
 {
-    [
-        number_at(values, 0),
-        number_at(values, 1),
-        number_at(values, 2),
-        number_at(values, 3),
-        number_at(values, 4),
-        number_at(values, 5),
-        number_at(values, 6),
-        number_at(values, 7),
-        number_at(values, 8),
-    ]
-}
-
-// Four of the numbers, from the i-th on.
-fn four(k: &[f32], i: usize) -> [f32; 4]
-    requires { i ≤ 32 }
-    ensures { result ≡ four_of k.now i }
-{
-    [
-        number_at(k, i),
-        number_at(k, i + 1),
-        number_at(k, i + 2),
-        number_at(k, i + 3),
-    ]
+    let mut v = [0.0f32; N];
+    for j in 0..N {
+        v[j] = number_at(list, i + j);
+    }
+    v
 }
 
 // Nine cubics from 36 coefficients by position.
@@ -85,15 +61,15 @@ pub fn cubics(k: &[f32]) -> [[f32; 4]; 9]
     ensures { result ≡ nine_fours k.now }
 {
     [
-        four(k, 0),
-        four(k, 4),
-        four(k, 8),
-        four(k, 12),
-        four(k, 16),
-        four(k, 20),
-        four(k, 24),
-        four(k, 28),
-        four(k, 32),
+        numbers(k, 0),
+        numbers(k, 4),
+        numbers(k, 8),
+        numbers(k, 12),
+        numbers(k, 16),
+        numbers(k, 20),
+        numbers(k, 24),
+        numbers(k, 28),
+        numbers(k, 32),
     ]
 }
 
@@ -149,22 +125,22 @@ fn minus(why: Absence) -> f32
 }
 
 // A statistic's number; where it is absent, minus that of its cause.
-pub fn number_of(s: Statistic) -> f32
+pub fn number_of(s: Result<f32, Absence>) -> f32
     ensures { result ≡ number_of s }
 {
     match s {
-        Statistic::Value(x) => x,
-        Statistic::Absent(why) => minus(why),
+        Ok(x) => x,
+        Err(why) => minus(why),
     }
 }
 
 // The statistic with this number, or none.
-pub fn given(present: bool, x: f32) -> Statistic
+pub fn given(present: bool, x: f32) -> Result<f32, Absence>
     ensures { result ≡ given_of present x }
 {
     if present {
-        Statistic::Value(x)
+        Ok(x)
     } else {
-        Statistic::Absent(Absence::Samples)
+        Err(Absence::Samples)
     }
 }

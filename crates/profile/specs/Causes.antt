@@ -1,5 +1,5 @@
 -- The statistic's four tests, each asked for itself: the words of the claims about its causes. Definitions only.
-use Rattle.std.specs.Prelude.{ℕ, List, [], ◌∷◌, Bool, Float}
+use Rattle.std.specs.Prelude.{ℕ, List, [], ◌∷◌, Bool, Float, Result, Err}
 use Rattle.float.specs.Num.{◌⊖◌, ◌⊗◌, ◌⊘◌}
 use Rattle.fit.specs.Prims.{Prims}
 use Rattle.profile.specs.Four.{squares_of, over_of, roots_of, quotients_of, mean_of, spread_of, dot_of, energy_of, largest_by}
@@ -7,8 +7,6 @@ use Rattle.profile.specs.Profile.{residual_of, usable_samples, usable_roots, usa
 use Rattle.profile.specs.Tests.{Test, ◌else◌}
 use Rattle.profile.specs.declared.Absence.{Absence}
 use Rattle.profile.specs.declared.Absence.TheVariants.{Samples, Quotients, Line, Energy}
-use Rattle.profile.specs.declared.Statistic.{Statistic}
-use Rattle.profile.specs.declared.Statistic.TheVariants.{Absent}
 
 -- the scaled roots of the samples l under the sigmas
 unfoldable pub scaled_roots : Prims → List Float → List Float → List Float
@@ -37,11 +35,11 @@ unfoldable pub energy_test : List Float → List Float → Bool
 energy_test x z = usable_energy (off_energy x z) (energy_of z)
 
 -- the four tests of the samples l under the sigmas, in the Rust's order, each with its cause
-unfoldable pub tests_by : Prims → List Float → List Float → List (Test Statistic)
+unfoldable pub tests_by : Prims → List Float → List Float → List (Test (Result Float Absence))
 tests_by p sigmas l =
     let x = squares_of sigmas in
     let z = scaled_roots p sigmas l in
-    (usable_samples l else Absent Samples) ∷ (roots_test p sigmas l else Absent Quotients) ∷ (line_test x z else Absent Line) ∷ (energy_test x z else Absent Energy) ∷ []
+    (usable_samples l else Err Samples) ∷ (roots_test p sigmas l else Err Quotients) ∷ (line_test x z else Err Line) ∷ (energy_test x z else Err Energy) ∷ []
 
 -- what the statistic is where each test passes
 unfoldable pub quotient_by : Prims → List Float → List Float → Float

@@ -1,6 +1,6 @@
 // Four floats at a time.
 ghost use Rattle.std.specs.Prelude.{◌≡◌};
-ghost use Rattle.profile.specs.Four.{squares_of, less_of, over_of, roots_of, products_of, quotients_of, sum_of, mean_of, spread_of, dot_of, energy_of, largest_of, all_finite, all_above, all_below, usable, all_usable};
+ghost use Rattle.profile.specs.Four.{squares_of, less_of, over_of, roots_of, products_of, quotients_of, sum_of, mean_of, spread_of, dot_of, energy_of, largest_of, all_above, all_below, usable, all_usable};
 
 // Each times itself.
 pub fn squares(v: [f32; 4]) -> [f32; 4]
@@ -94,16 +94,6 @@ pub fn largest(v: [f32; 4]) -> f32
     ensures { result ≡ largest_of v }
 {
     float::max(float::max(v[0], v[1]), float::max(v[2], v[3]))
-}
-
-// Whether all are finite.
-pub fn all_finite(v: [f32; 4]) -> bool
-    ensures { result ≡ all_finite v }
-{
-    float::is_finite(v[0])
-        & float::is_finite(v[1])
-        & float::is_finite(v[2])
-        & float::is_finite(v[3])
 }
 
 // Whether all are above 0.

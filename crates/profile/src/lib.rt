@@ -7,9 +7,10 @@ ghost use Rattle.profile.specs.Four.{energy_of};
 ghost use Rattle.profile.specs.Profile.{residual_of, usable_samples, usable_roots, usable_line, usable_energy, ratio_of, fitted_of, scaled_of, statistic_of};
 
 use crate::four::{
-    all_above, all_below, all_finite, all_usable, dot, energy, largest, mean, over, quotients,
-    roots, spread, squares,
+    all_above, all_below, all_usable, dot, energy, largest, mean, over, quotients, roots, spread,
+    squares,
 };
+use fit::scale_fit::all_finite;
 
 mod four;
 
@@ -20,13 +21,6 @@ pub enum Absence {
     Quotients,
     Line,
     Energy,
-}
-
-// The profile statistic: a number, or why there is none.
-#[derive(Clone, Copy)]
-pub enum Statistic {
-    Value(f32),
-    Absent(Absence),
 }
 
 // Each dy less the slope's part of its dx.
@@ -80,25 +74,25 @@ fn usable_energy(residual: f32, whole: f32) -> bool
 }
 
 // The residual's energy over the whole.
-fn ratio(residual: f32, whole: f32) -> Statistic
+fn ratio(residual: f32, whole: f32) -> Result<f32, Absence>
     ensures { result ≡ ratio_of residual whole }
 {
     if usable_energy(residual, whole) {
-        Statistic::Value(residual / whole)
+        Ok(residual / whole)
     } else {
-        Statistic::Absent(Absence::Energy)
+        Err(Absence::Energy)
     }
 }
 
 // The statistic of the points with these distances from their means and this slope.
-fn off_line(dx: [f32; 4], z: [f32; 4], dy: [f32; 4], slope: f32) -> Statistic
+fn off_line(dx: [f32; 4], z: [f32; 4], dy: [f32; 4], slope: f32) -> Result<f32, Absence>
     ensures { result ≡ ratio_of (energy_of (residual_of dy slope dx)) (energy_of z) }
 {
     ratio(energy(residual(dy, slope, dx)), energy(z))
 }
 
 // The line through the four points (x, z).
-fn fitted(x: [f32; 4], z: [f32; 4]) -> Statistic
+fn fitted(x: [f32; 4], z: [f32; 4]) -> Result<f32, Absence>
     ensures { result ≡ fitted_of x z }
 {
     let dx = spread(x);
@@ -110,12 +104,12 @@ fn fitted(x: [f32; 4], z: [f32; 4]) -> Statistic
     if usable_line(mean_z, numerator, slope, mean_z - slope * mean_x) {
         off_line(dx, z, dy, slope)
     } else {
-        Statistic::Absent(Absence::Line)
+        Err(Absence::Line)
     }
 }
 
 // The roots of the quotients q, scaled by the largest of them.
-fn scaled(x: [f32; 4], q: [f32; 4]) -> Statistic
+fn scaled(x: [f32; 4], q: [f32; 4]) -> Result<f32, Absence>
     ensures { result ≡ scaled_of x q }
 {
     let root = roots(q);
@@ -124,18 +118,18 @@ fn scaled(x: [f32; 4], q: [f32; 4]) -> Statistic
     if usable_roots(q, root, maximum_root, z) {
         fitted(x, z)
     } else {
-        Statistic::Absent(Absence::Quotients)
+        Err(Absence::Quotients)
     }
 }
 
 // The profile statistic of the samples under the sigmas.
-pub fn profile_compatibility_statistic(sigmas: [f32; 4], samples: [f32; 4]) -> Statistic
+pub fn profile_compatibility_statistic(sigmas: [f32; 4], samples: [f32; 4]) -> Result<f32, Absence>
     ensures { result ≡ statistic_of sigmas samples }
 {
     if usable_samples(samples) {
         let x = squares(sigmas);
         scaled(x, quotients(x, samples))
     } else {
-        Statistic::Absent(Absence::Samples)
+        Err(Absence::Samples)
     }
 }

@@ -9,8 +9,9 @@ use contract.Monad.{Fun}
 use Rattle.tables.specs.contracts.is_good as is-good
 use Rattle.tables.specs.contracts.has_nan as has-nan
 use Rattle.tables.specs.contracts.read_set as read_set
-use Rattle.tables.specs.contracts.refusals.cause_of as cause-of
-use Rattle.tables.specs.contracts.refusals.number_of as number_of_lem
+use Rattle.tables.specs.contracts.read_or_blank as read-or-blank
+use Rattle.tables.specs.contracts.refusals.U8FromMissing.from as cause-of
+use Rattle.tables.specs.contracts.refusals.U32FromRefusal.from as number_of_lem
 use Rattle.tables.specs.contracts.refusals.value_of as value_of_lem
 use Rattle.tables.specs.contracts.set_of as set-of
 use Rattle.checks.specs.contracts.sides_off as sides-off
@@ -66,6 +67,9 @@ module _ {M : Type 1} {𝓤 : Ura M} (𝓛 : Logic 𝓤) (mem : Memory → SProp
 
   pub read_set_settled : Settles 𝓤 read_set.ended (read_set.clauses 𝓛 mem run)
   read_set_settled κs a g g' r r' ws ws' = one_answer 𝓤 _
+
+  pub read-or-blank_settled : Settles 𝓤 read-or-blank.ended (read-or-blank.clauses 𝓛 mem run)
+  read-or-blank_settled κs a g g' r r' ws ws' = one_answer 𝓤 _
 
   -- ---- the number of a cause; the number and the value of a refusal
 
@@ -210,7 +214,7 @@ module _ {M : Type 1} {𝓤 : Ura M} (𝓛 : Logic 𝓤) (mem : Memory → SProp
 
   pub feed_column_settled : Settles 𝓤 feed-column.ended (feed-column.clauses 𝓛 mem run)
   feed_column_settled κs a g g' r r' ws ws' =
-      one_value 𝓤 _ _ _ (λ x. record { answer = x.answer; state = x.state }) (λ x. untouched 5 (x.ring.l0, (x.ring.l1, (x.ring.l2, (x.ring.l3, (x.out, tt))))))
+      one_value 𝓤 _ _ _ (λ x. x.answer) (λ x. (x.state, untouched 4 (x.ring.l0, (x.ring.l1, (x.ring.l2, (x.ring.l3, (x.out, tt)))))))
 
   pub start_settled : Settles 𝓤 start.ended (start.clauses 𝓛 mem run)
   start_settled κs a g g' r r' ws ws' = one_value 𝓤 _ _ _ (λ x. x.number) (λ x. untouched 9 (x.state, tt))

@@ -1,4 +1,5 @@
 -- Laws of the halved level: its sides, its length, where its pixels lie, and what the checks leave to know. Assumes nothing.
+use Rattle.std.specs.Prelude.{Ok}
 use Prim.Native.Nat.{ℕ, suc, ◌+◌, ◌*◌, ◌/◌, ◌≤◌, ◌<◌}
 use native.Mathlib.Nat.{suc-mul, add-mul, mul_comm, mul-le-mul_right}
 use native.Mathlib.Omega.{arith}
@@ -9,14 +10,12 @@ use lib.ListN.{length}
 use lib.Dec.{ltb, eqb}
 use lib.Ieee.{Float}
 use borrow.Author.Tests.{ltb-false, lt-ltb, le-ltb, eqb-true, not-false}
-use Rattle.tables.specs.declared.Checked.TheVariants.{Fine}
 use Rattle.tables.specs.Refusal.{first_of}
 use Rattle.tables.proofs.RefusalLaws.{unless-fine, sides_most}
 use Rattle.grid.specs.Grid.{pixel_at, columns_of, Stored}
 use Rattle.grid.proofs.GridLaws.{before_last, length-columns, columns_at, area}
 use Rattle.grid.proofs.StoredLaws.{stored-start}
 use Rattle.pyramid.specs.Pyramid.{half_of, taken_of, halved_of, needed, Halves, downsample_checks, outcome, downsampled}
-use Rattle.pyramid.specs.declared.Halved.TheVariants.{Sides}
 
 -- ---- half a side
 
@@ -72,7 +71,7 @@ pub record Passed (n room rows cols : ℕ) : Type 0 where
   pub long : n ≡ rows * cols
   pub roomy : needed rows cols ≤ room
 
-pub checks_passed : (n room rows cols : ℕ) → first_of (downsample_checks n room rows cols) ≡ Fine → Passed n room rows cols
+pub checks_passed : (n room rows cols : ℕ) → first_of (downsample_checks n room rows cols) ≡ Ok tt → Passed n room rows cols
 unfolding downsample_checks first_of
 checks_passed n room rows cols h =
     let sides = unless-fine _ _ _ h in
@@ -107,6 +106,6 @@ column_inside {rows = rows} {height = height} {width = width} c h less = (
 -- the halved level stored at the start of a buffer with room for it is what a call that no check refuses leaves
 pub halved_stored : (rows cols : ℕ) (l out : List Float) {out' : List Float} → Passed (length l) (length out) rows cols
     → Stored out out' 0 (columns_of (taken_of l rows) (half_of rows cols) (half_of cols rows))
-    → outcome (Sides (half_of rows cols) (half_of cols rows)) out' ≡ downsampled Fine rows cols l out
+    → outcome (Ok (half_of rows cols, half_of cols rows)) out' ≡ downsampled (Ok tt) rows cols l out
 unfolding downsampled halved_of
-halved_stored rows cols l out p s = ap (outcome (Sides (half_of rows cols) (half_of cols rows))) (stored-start s (omega (arith, length_halved rows cols l, p.roomy)))
+halved_stored rows cols l out p s = ap (outcome (Ok (half_of rows cols, half_of cols rows))) (stored-start s (omega (arith, length_halved rows cols l, p.roomy)))

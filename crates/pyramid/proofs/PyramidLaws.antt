@@ -1,23 +1,21 @@
 -- What the promises of the pyramid's helpers settle: the octave count's bounds, the halved level's pixels, what is kept, and the
 -- refusals. Assumes nothing.
+use Rattle.std.specs.Prelude.{Result, Ok, Err, ⊤}
 use Prim.Native.Nat.{ℕ, ◌*◌, ◌/◌, ◌≤◌, ◌<◌}
 use native.Mathlib.Omega.{arith}
 use mathlib.Core.Bool.{Bool, true, false, cond}
 use mathlib.Core.List.{List}
-use mathlib.Core.Path.{◌≡◌, refl, ◌∙◌}
+use mathlib.Core.Path.{◌≡◌, refl, ap, ◌∙◌}
 use lib.ListN.{length, get_or}
 use lib.Dec.{ltb, leb}
 use lib.Ieee.{Float, nan}
 use borrow.Author.Tests.{ltb-false, leb-false, le-ltb, lt-leb}
 use Rattle.tables.specs.declared.Refusal.{Refusal}
-use Rattle.tables.specs.declared.Checked.{Checked}
-use Rattle.tables.specs.declared.Checked.TheVariants.{Fine, Bad}
 use Rattle.tables.specs.Refusal.{Check, said_at, First}
 use Rattle.tables.proofs.RefusalLaws as order
 use Rattle.grid.specs.Grid.{pixel_at}
 use Rattle.grid.proofs.StoredLaws.{start-length, start_at, start-past}
 use Rattle.pyramid.specs.Pyramid.{octaves_of, octave_count_of, half_of, halved_of, needed, downsample_checks, Outcome, downsampled, downsample_of}
-use Rattle.pyramid.specs.declared.Halved.TheVariants.{Sides, Refused}
 use Rattle.pyramid.proofs.HalvedLaws.{halved_pixel, pixel_before, length_halved, checks_passed}
 
 -- ---- the octave count
@@ -73,38 +71,38 @@ octave-count-most rows cols = octaves_most _
 -- ---- over the outcome of the checks
 
 module _ (rows cols : ℕ) (l out : List Float) where
-  abbrev left : Checked → Outcome
+  abbrev left : Result ⊤ Refusal → Outcome
   left w = downsampled w rows cols l out
 
-  answer-refused : (w : Checked) (r : Refusal) → (left w).answer ≡ Refused r → w ≡ Bad r
+  answer-refused : (w : Result ⊤ Refusal) (r : Refusal) → (left w).answer ≡ Err r → w ≡ Err r
   unfolding downsampled
-  answer-refused (Bad q) r e = cc
-  answer-refused Fine r e = cc
+  answer-refused (Err q) r e = cc
+  answer-refused (Ok _) r e = cc
 
-  buffer-kept : (w : Checked) (r : Refusal) → (left w).answer ≡ Refused r → (left w).buffer ≡ out
+  buffer-kept : (w : Result ⊤ Refusal) (r : Refusal) → (left w).answer ≡ Err r → (left w).buffer ≡ out
   unfolding downsampled
-  buffer-kept (Bad q) r e = refl
-  buffer-kept Fine r e = cc
+  buffer-kept (Err q) r e = refl
+  buffer-kept (Ok _) r e = cc
 
-  answer_halved : (w : Checked) (h v : ℕ) → (left w).answer ≡ Sides h v → (w ≡ Fine) × ((h ≡ half_of rows cols) × (v ≡ half_of cols rows))
+  answer_halved : (w : Result ⊤ Refusal) (h v : ℕ) → (left w).answer ≡ Ok (h, v) → (w ≡ Ok tt) × ((h ≡ half_of rows cols) × (v ≡ half_of cols rows))
   unfolding downsampled
-  answer_halved (Bad q) h v e = (cc, (cc, cc))
-  answer_halved Fine h v e = (refl, (cc, cc))
+  answer_halved (Err q) h v e = (cc, (cc, cc))
+  answer_halved (Ok _) h v e = let same : ◌≡◌ {A = ℕ × ℕ} (h, v) (half_of rows cols, half_of cols rows) = cc in (refl, (ap (λ p. p.0) same, ap (λ p. p.1) same))
 
-  buffer-length : (w : Checked) → (w ≡ Fine → needed rows cols ≤ length out) → length (left w).buffer ≡ length out
+  buffer-length : (w : Result ⊤ Refusal) → (w ≡ Ok tt → needed rows cols ≤ length out) → length (left w).buffer ≡ length out
   unfolding downsampled
-  buffer-length (Bad q) h = refl
-  buffer-length Fine h = start-length (halved_of rows cols l) out (omega (arith, length_halved rows cols l, h refl))
+  buffer-length (Err q) h = refl
+  buffer-length (Ok _) h = start-length (halved_of rows cols l) out (omega (arith, length_halved rows cols l, h refl))
 
-  buffer-past : (w : Checked) (i : ℕ) → needed rows cols ≤ i → get_or (left w).buffer i nan ≡ get_or out i nan
+  buffer-past : (w : Result ⊤ Refusal) (i : ℕ) → needed rows cols ≤ i → get_or (left w).buffer i nan ≡ get_or out i nan
   unfolding downsampled
-  buffer-past (Bad q) i h = refl
-  buffer-past Fine i h = start-past (halved_of rows cols l) out i (omega (arith, length_halved rows cols l))
+  buffer-past (Err q) i h = refl
+  buffer-past (Ok _) i h = start-past (halved_of rows cols l) out i (omega (arith, length_halved rows cols l))
 
-  buffer_halved : (w : Checked) → w ≡ Fine → (i : ℕ) → i < needed rows cols → get_or (left w).buffer i nan ≡ get_or (halved_of rows cols l) i nan
+  buffer_halved : (w : Result ⊤ Refusal) → w ≡ Ok tt → (i : ℕ) → i < needed rows cols → get_or (left w).buffer i nan ≡ get_or (halved_of rows cols l) i nan
   unfolding downsampled
-  buffer_halved (Bad q) e i h = cc
-  buffer_halved Fine e i h = start_at (halved_of rows cols l) out i (omega (arith, length_halved rows cols l))
+  buffer_halved (Err q) e i h = cc
+  buffer_halved (Ok _) e i h = start_at (halved_of rows cols l) out i (omega (arith, length_halved rows cols l))
 
 -- ---- a call
 
@@ -116,12 +114,12 @@ module _ (rows cols : ℕ) (l out : List Float) where
   after = downsample_of rows cols l out
 
   -- the new sides are half the sides
-  pub sides_halved : (h w : ℕ) → after.answer ≡ Sides h w → (h ≡ half_of rows cols) × (w ≡ half_of cols rows)
+  pub sides_halved : (h w : ℕ) → after.answer ≡ Ok (h, w) → (h ≡ half_of rows cols) × (w ≡ half_of cols rows)
   unfolding downsample_of
   sides_halved h w e = (answer_halved rows cols l out _ h w e).1
 
   -- the result's pixel (r, c) is the level's (2r, 2c); the result lies by columns of rows/2
-  pub pixel_taken : (h w : ℕ) → after.answer ≡ Sides h w → (r c : ℕ) → r < rows / 2 → c < cols / 2
+  pub pixel_taken : (h w : ℕ) → after.answer ≡ Ok (h, w) → (r c : ℕ) → r < rows / 2 → c < cols / 2
       → pixel_at after.buffer (rows / 2) r c ≡ pixel_at l rows (2 * r) (2 * c)
   unfolding downsample_of pixel_at
   pixel_taken h w e r c p q =
@@ -139,26 +137,26 @@ module _ (rows cols : ℕ) (l out : List Float) where
   length-kept = buffer-length rows cols l out _ (λ e. (checks_passed _ _ _ _ e).roomy)
 
   -- a refusal that is answered is the first that holds, in the order of the checks: 1, 2, 6
-  pub refused-first : (r : Refusal) → after.answer ≡ Refused r → First checks r
+  pub refused-first : (r : Refusal) → after.answer ≡ Err r → First checks r
   unfolding downsample_of
   refused-first r e = order.first-refused checks r (answer-refused rows cols l out _ r e)
 
   -- and the first that holds is answered
-  pub first_answered : (r : Refusal) → First checks r → after.answer ≡ Refused r
+  pub first_answered : (r : Refusal) → First checks r → after.answer ≡ Err r
   unfolding downsample_of downsampled
   first_answered r f = rw (order.refused-first checks r f)
 
   -- a refusal writes nothing
-  pub refused_keeps : (r : Refusal) → after.answer ≡ Refused r → after.buffer ≡ out
+  pub refused_keeps : (r : Refusal) → after.answer ≡ Err r → after.buffer ≡ out
   unfolding downsample_of
   refused_keeps r e = buffer-kept rows cols l out _ r e
 
   -- a call that answers sides has no check that holds
-  pub halved_none : (h w : ℕ) → after.answer ≡ Sides h w → (k : ℕ) → said_at checks k ≡ Fine
+  pub halved_none : (h w : ℕ) → after.answer ≡ Ok (h, w) → (k : ℕ) → said_at checks k ≡ Ok tt
   unfolding downsample_of
   halved_none h w e = order.first_fine checks (answer_halved rows cols l out _ h w e).0
 
   -- and a call with no check that holds answers the new sides
-  pub none_halved : ((k : ℕ) → said_at checks k ≡ Fine) → after.answer ≡ Sides (half_of rows cols) (half_of cols rows)
+  pub none_halved : ((k : ℕ) → said_at checks k ≡ Ok tt) → after.answer ≡ Ok (half_of rows cols, half_of cols rows)
   unfolding downsample_of downsampled
   none_halved h = rw (order.fine-first checks h)

@@ -1,13 +1,10 @@
 -- How many octaves a map has, a level halved, and what halving answers, refusals too. Definitions only.
-use Rattle.std.specs.Prelude.{ℕ, ◌+◌, ◌*◌, ◌/◌, ◌≤◌, min, cond, not, ◌||◌, List, [], ◌∷◌, length, get_or, ltb, leb, eqb, Float}
+use Rattle.std.specs.Prelude.{ℕ, ◌+◌, ◌*◌, ◌/◌, ◌≤◌, min, cond, not, ◌||◌, List, [], ◌∷◌, length, get_or, ltb, leb, eqb, Float, Result, Ok, Err, ⊤}
 use Rattle.std.specs.Float.{nan}
 use Rattle.tables.specs.Refusal.{Check, ◌when◌, first_of, sides_check}
+use Rattle.tables.specs.declared.Refusal.{Refusal}
 use Rattle.tables.specs.declared.Refusal.TheVariants.{Level, Room}
-use Rattle.tables.specs.declared.Checked.{Checked}
-use Rattle.tables.specs.declared.Checked.TheVariants.{Fine, Bad}
 use Rattle.grid.specs.Grid.{pixel_at, columns_of, at_start}
-use Rattle.pyramid.specs.declared.Halved.{Halved}
-use Rattle.pyramid.specs.declared.Halved.TheVariants.{Sides, Refused}
 
 -- ---- the octave count
 
@@ -62,17 +59,17 @@ downsample_checks n room rows cols = sides_check rows cols ∷ (Level when not (
 
 -- an answer, and the whole buffer after it
 pub record Outcome : Type 0 where
-  pub answer : Halved
+  pub answer : Result (ℕ × ℕ) Refusal
   pub buffer : List Float
 
 -- these two, given one by one
-abbrev pub outcome : Halved → List Float → Outcome
+abbrev pub outcome : Result (ℕ × ℕ) Refusal → List Float → Outcome
 outcome a b = record { answer = a; buffer = b }
 
 -- a refusal writes nothing; otherwise the new sides are answered, the halved level is written, and what lies past it is kept
-unfoldable pub downsampled : Checked → ℕ → ℕ → List Float → List Float → Outcome
-downsampled (Bad r) rows cols l out = outcome (Refused r) out
-downsampled Fine rows cols l out = outcome (Sides (half_of rows cols) (half_of cols rows)) (at_start (halved_of rows cols l) out)
+unfoldable pub downsampled : Result ⊤ Refusal → ℕ → ℕ → List Float → List Float → Outcome
+downsampled (Err r) rows cols l out = outcome (Err r) out
+downsampled (Ok _) rows cols l out = outcome (Ok (half_of rows cols, half_of cols rows)) (at_start (halved_of rows cols l) out)
 
 -- the whole of downsample
 unfoldable pub downsample_of : ℕ → ℕ → List Float → List Float → Outcome

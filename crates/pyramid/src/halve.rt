@@ -4,7 +4,7 @@ ghost use Rattle.tables.specs.Refusal.{first_of};
 ghost use Rattle.grid.specs.Grid.{list_of, columns_of, Stored};
 ghost use Rattle.pyramid.specs.Pyramid.{half_of, second_of, taken_of, Halves, downsample_checks};
 
-use tables::{Checked, Refusal};
+use tables::Refusal;
 
 // Half a side, rounded down; 0 where a side is under 2.
 pub fn half(side: usize, other: usize) -> usize
@@ -17,21 +17,21 @@ pub fn half(side: usize, other: usize) -> usize
 }
 
 // Of the checks of downsample, in its order (1, 2, 6), the first that holds is answered.
-pub fn checked(n: usize, room: usize, rows: usize, cols: usize) -> Checked
+pub fn checked(n: usize, room: usize, rows: usize, cols: usize) -> Result<(), Refusal>
     ensures { result ≡ first_of (downsample_checks n room rows cols) }
 {
     if (4096 < rows) | (4096 < cols) {
-        return Checked::Bad(Refusal::Size);
+        return Err(Refusal::Size);
     }
     let area = rows * cols;
     let needed = half(rows, cols) * half(cols, rows);
     if n != area {
-        return Checked::Bad(Refusal::Level);
+        return Err(Refusal::Level);
     }
     if room < needed {
-        return Checked::Bad(Refusal::Room);
+        return Err(Refusal::Room);
     }
-    Checked::Fine
+    Ok(())
 }
 
 // Every second pixel from place p on, n of them, goes to the places from at on.
@@ -40,10 +40,8 @@ fn halve_column(level: &[f32], p: usize, n: usize, out: &mut [f32], at: usize)
     requires n_in_bounds_2 { at + n ≤ length out.old }
     ensures { Stored out.old out.new at (list_of (second_of level.now p) n) }
 {
-    let mut r: usize = 0;
-    while r < n {
+    for r in 0..n {
         out[at + r] = level[p + 2 * r];
-        r += 1;
     }
 }
 
@@ -52,9 +50,7 @@ pub fn halve_level(level: &[f32], rows: usize, height: usize, width: usize, out:
     requires { Halves (length level.now) (length out.old) rows height width }
     ensures { Stored out.old out.new 0 (columns_of (taken_of level.now rows) height width) }
 {
-    let mut c: usize = 0;
-    while c < width {
+    for c in 0..width {
         halve_column(level, 2 * c * rows, height, out, c * height);
-        c += 1;
     }
 }

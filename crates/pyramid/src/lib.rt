@@ -7,14 +7,7 @@ mod halve; // halve.rt: every second pixel of every second column, and the refus
 ghost use Rattle.std.specs.Prelude.{◌≡◌};
 ghost use Rattle.pyramid.specs.Pyramid.{octave_count_of, outcome, downsample_of};
 
-use tables::{Checked, Refusal};
-
-// What halving a level answers: the new rows and cols, or why it refused.
-#[derive(Clone, Copy)]
-pub enum Halved {
-    Sides(usize, usize),
-    Refused(Refusal),
-}
+use tables::Refusal;
 
 // How many octaves a map of these sides has.
 pub fn octave_count(rows: usize, cols: usize) -> u32
@@ -28,17 +21,17 @@ pub fn octave_count(rows: usize, cols: usize) -> u32
 }
 
 // Halves a level, given by columns, into the buffer out, where it lies by columns of its own rows.
-pub fn downsample(rows: usize, cols: usize, level: &[f32], out: &mut [f32]) -> Halved
+pub fn downsample(
+    rows: usize,
+    cols: usize,
+    level: &[f32],
+    out: &mut [f32],
+) -> Result<(usize, usize), Refusal>
     ensures { outcome result out.new ≡ downsample_of rows cols level.now out.old }
 {
-    let check = halve::checked(level.len(), out.len(), rows, cols);
-    match check {
-        Checked::Bad(why) => Halved::Refused(why),
-        Checked::Fine => {
-            let height = halve::half(rows, cols);
-            let width = halve::half(cols, rows);
-            halve::halve_level(level, rows, height, width, out);
-            Halved::Sides(height, width)
-        }
-    }
+    halve::checked(level.len(), out.len(), rows, cols)?;
+    let height = halve::half(rows, cols);
+    let width = halve::half(cols, rows);
+    halve::halve_level(level, rows, height, width, out);
+    Ok((height, width))
 }

@@ -1,4 +1,4 @@
-// The octaves of a shortest side, by comparisons alone.
+// The octaves of a shortest side.
 ghost use Rattle.std.specs.Prelude.{◌≡◌};
 ghost use Rattle.pyramid.specs.Pyramid.{octaves_of};
 
@@ -6,23 +6,13 @@ ghost use Rattle.pyramid.specs.Pyramid.{octaves_of};
 pub fn octaves(side: usize) -> u32
     ensures { result ≡ octaves_of side }
 {
-    if side < 10 {
-        return 0;
+    match side {
+        0..=9 => 0,
+        10..=64 => 1,
+        65..=128 => 2,
+        129..=256 => 3,
+        257..=512 => 4,
+        513..=1024 => 5,
+        _ => 6,
     }
-    if side <= 64 {
-        return 1;
-    }
-    if side <= 128 {
-        return 2;
-    }
-    if side <= 256 {
-        return 3;
-    }
-    if side <= 512 {
-        return 4;
-    }
-    if side <= 1024 {
-        return 5;
-    }
-    6
 }

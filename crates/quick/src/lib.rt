@@ -7,6 +7,7 @@ mod guessed;
 pub use guessed::{guess_of, sqrt, tried};
 
 // A root's pattern, or a whole root, that is right where `near` holds.
+// Stays: `tried` promises the bound of `root` where it is not near too, and lines of many values take both by one step, without a branch.
 #[derive(Clone, Copy)]
 pub struct Trial {
     pub root: u32,

@@ -1,4 +1,5 @@
 -- Demand 3 over raw maps. Assumes nothing.
+use Rattle.std.specs.Prelude.{Ok}
 use Prim.Native.Nat.{ℕ, ◌-◌, ◌*◌, ◌/◌, ◌%◌, ◌≤◌, ◌<◌}
 use native.Mathlib.Omega.{arith}
 use native.Mathlib.Nat.{eq-zero-or-pos}
@@ -18,11 +19,9 @@ use Rattle.pixel.specs.declared.Frame.{Frame}
 use Rattle.grid.specs.Grid.{pixel_at}
 use Rattle.samples.specs.Level.{Maps, maps_of}
 use Rattle.levels.specs.Levels.{levels_of}
-use Rattle.levels.specs.declared.Blurred.TheVariants.{Made}
 use Rattle.levels.proofs.LevelsLaws.{made-is, placed_exact}
 use Rattle.detect.specs.Due.{due}
 use Rattle.detect.specs.Detect.{detect_of}
-use Rattle.detect.specs.declared.Answer.TheVariants.{Found}
 use Rattle.kernels.specs.declared.Kernel.{Kernel}
 use Rattle.kernels.specs.Kernel.{kernels_of}
 use Rattle.kernels.proofs.Radii.{radii_rise}
@@ -124,8 +123,8 @@ module _ (lost : ℕ → ℕ → Bool) (f : Frame) (s : Set) (th : Thresholds) (
 
   -- The same in detection's own answers: where neither call is refused, the second answers the count of the first's records that are spared, and lays just these.
   pub two_raw_answers : (out out' : List ℕ) (n n' : ℕ)
-      → (detect_of s th f.rows f.cols f.octave (level_maps a f s th).l0 (level_maps a f s th).l1 (level_maps a f s th).l2 (level_maps a f s th).l3 out).answer ≡ Found n
-      → (detect_of s th f.rows f.cols f.octave (level_maps b f s th).l0 (level_maps b f s th).l1 (level_maps b f s th).l2 (level_maps b f s th).l3 out').answer ≡ Found n'
+      → (detect_of s th f.rows f.cols f.octave (level_maps a f s th).l0 (level_maps a f s th).l1 (level_maps a f s th).l2 (level_maps a f s th).l3 out).answer ≡ Ok n
+      → (detect_of s th f.rows f.cols f.octave (level_maps b f s th).l0 (level_maps b f s th).l1 (level_maps b f s th).l2 (level_maps b f s th).l3 out').answer ≡ Ok n'
       → Struck (spared_raw lost f.rows f.cols (reach_of f s)) (due (level_maps a f s th)) out out'
       (detect_of s th f.rows f.cols f.octave (level_maps a f s th).l0 (level_maps a f s th).l1 (level_maps a f s th).l2 (level_maps a f s th).l3 out)
       (detect_of s th f.rows f.cols f.octave (level_maps b f s th).l0 (level_maps b f s th).l1 (level_maps b f s th).l2 (level_maps b f s th).l3 out')
@@ -136,7 +135,7 @@ module _ (lost : ℕ → ℕ → Bool) (f : Frame) (s : Set) (th : Thresholds) (
   }
 
 -- What levels leaves in four buffers as long as the map are the maps that these theorems speak of.
-pub made_maps : (raw : List Float) (f : Frame) (s : Set) (th : Thresholds) (l0 l1 l2 l3 : List Float) → (levels_of s f.rows f.cols f.octave raw l0 l1 l2 l3).answer ≡ Made
+pub made_maps : (raw : List Float) (f : Frame) (s : Set) (th : Thresholds) (l0 l1 l2 l3 : List Float) → (levels_of s f.rows f.cols f.octave raw l0 l1 l2 l3).answer ≡ Ok tt
     → length l0 ≡ f.rows * f.cols → length l1 ≡ f.rows * f.cols → length l2 ≡ f.rows * f.cols → length l3 ≡ f.rows * f.cols
     → let o = levels_of s f.rows f.cols f.octave raw l0 l1 l2 l3 in maps_of o.l0 o.l1 o.l2 o.l3 f s th ≡ level_maps raw f s th
 made_maps raw f s th l0 l1 l2 l3 made e0 e1 e2 e3 =

@@ -156,12 +156,6 @@ fn is_on_side(n: usize, x: f32) -> bool
     }
 }
 
-fn as_usize(v: u32) -> usize
-    ensures { result ≡ v }
-{
-    v as usize
-}
-
 // Whether the record is readable for a map of rows by cols.
 pub fn is_readable(rows: usize, cols: usize, r: Record) -> bool
     requires rows_bound { rows ≤ 4096 }
@@ -171,7 +165,7 @@ pub fn is_readable(rows: usize, cols: usize, r: Record) -> bool
     is_finite_record(r)
         & is_on_side(cols, r.x)
         & is_on_side(rows, r.y)
-        & (as_usize(r.key) < rows * cols)
+        & ((r.key as usize) < rows * cols)
         & (r.octave <= 5)
         & ((r.index == 1) | (r.index == 2))
         & (r.polarity <= 1)

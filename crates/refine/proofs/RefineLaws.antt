@@ -1,4 +1,5 @@
 -- What the refinement keeps, what it changes, and when it rejects, whichever zeros min, max and the sums take.
+use Rattle.std.specs.Prelude.{Option, Some, None}
 use Prim.Native.Nat.{ℕ, zero, suc, ◌<◌}
 use mathlib.Core.Path.{◌≡◌, refl}
 use mathlib.Core.Bool.{Bool, true, false, false≢true, cond, ◌&&◌}
@@ -14,16 +15,14 @@ use Rattle.fit.specs.Cubic.{◌at◌}
 use Rattle.fit.specs.Prims.{Prims}
 use Rattle.refine.specs.Refine.{values_of, edge_of, index_of, spatial_by, denominator_of, steep_of, delta_yOf, delta_xOf, nearby, placed_of, moved_of, refine_by}
 use Rattle.refine.specs.declared.Spot.{Spot}
-use Rattle.refine.specs.declared.Refined.{Refined}
-use Rattle.refine.specs.declared.Refined.TheVariants.{Accepted, Rejected}
 use Rattle.float.proofs.Finite.{sum-finite, difference_finite, product_finite}
 
 -- ---- the gates on the way to an acceptance
 
-rejected_no_spot : (found : Spot) → Rejected ≡ Accepted found → ⊥
+rejected_no_spot : (found : Spot) → None ≡ Some found → ⊥
 rejected_no_spot found e = let z : false ≡ true = cc in false≢true z
 
-spared : (b : Bool) (r : Refined) (found : Spot) → cond b Rejected r ≡ Accepted found → r ≡ Accepted found
+spared : (b : Bool) (r : Option Spot) (found : Spot) → cond b None r ≡ Some found → r ≡ Some found
 spared true r found h = cc
 spared false r found h = h
 
@@ -43,28 +42,28 @@ pub record Displaced (spot : Spot) (level : ℕ) (dx dy : Float) (found : Spot) 
   pub dx-is : found.dx ≡ dx
   pub dy-is : found.dy ≡ dy
 
-placed_displaces : (spot found : Spot) (index : ℕ) (dx dy : Float) → placed_of spot index dx dy ≡ Accepted found → Displaced spot index dx dy found
+placed_displaces : (spot found : Spot) (index : ℕ) (dx dy : Float) → placed_of spot index dx dy ≡ Some found → Displaced spot index dx dy found
 unfolding placed_of
 placed_displaces spot found index dx dy h =
-    let gate = passed (nearby dx && nearby dy) _ Rejected h (rejected_no_spot found) in
+    let gate = passed (nearby dx && nearby dy) _ None h (rejected_no_spot found) in
     let near = both (nearby dx) (nearby dy) gate.0 in
     let e = gate.1 in
     record { x = cc; y = cc; x-passes = near.0; y-passes = near.1; sigma = cc; peak = cc; octave = cc; index = cc; max = cc; dx-is = cc; dy-is = cc }
 
-moved_displaces : (spot found : Spot) (index : ℕ) (w : List Float) → moved_of spot index w ≡ Accepted found → Displaced spot index (delta_xOf w (delta_yOf w)) (delta_yOf w) found
+moved_displaces : (spot found : Spot) (index : ℕ) (w : List Float) → moved_of spot index w ≡ Some found → Displaced spot index (delta_xOf w (delta_yOf w)) (delta_yOf w) found
 unfolding moved_of
 moved_displaces spot found index w h =
     let small = spared (lt (denominator_of w) f1e_10) _ found h in
     let flat = spared (lt (abs_of (w at 0)) f1e_10) _ found small in
-    placed_displaces spot found index _ _ (passed (steep_of w spot.max) _ Rejected flat (rejected_no_spot found)).1
+    placed_displaces spot found index _ _ (passed (steep_of w spot.max) _ None flat (rejected_no_spot found)).1
 
 -- an accepted spot is the one passed, displaced as the fit of its inner level says
-pub accepted_displaced : (p : Prims) (set : Set) (most : Float) (k : List (List Float)) (spot found : Spot) → refine_by p set most k spot ≡ Accepted found →
+pub accepted_displaced : (p : Prims) (set : Set) (most : Float) (k : List (List Float)) (spot found : Spot) → refine_by p set most k spot ≡ Some found →
     let index = index_of set.sigmas spot.sigma in
     let w = spatial_by p set index (values_of k spot.sigma) in
     Displaced spot index (delta_xOf w (delta_yOf w)) (delta_yOf w) found
 unfolding refine_by
-accepted_displaced p set most k spot found h = moved_displaces spot found _ _ (passed (edge_of (values_of k spot.sigma) most spot.max) _ Rejected h (rejected_no_spot found)).1
+accepted_displaced p set most k spot found h = moved_displaces spot found _ _ (passed (edge_of (values_of k spot.sigma) most spot.max) _ None h (rejected_no_spot found)).1
 
 -- the index is one of the two inner levels'
 pub index_inner : (g : List Float) (sigma : Float) → (index_of g sigma ≡ 1) ⊎ (index_of g sigma ≡ 2)
@@ -108,14 +107,14 @@ edge_finite v most is_max t =
     nine v ends.0 up.0 corners.1 left.0 (product_finite f2 (v at 4) left.1).1 row.1 low.1 column.1 ends.1
 
 -- an accepted spot's nine values are finite
-pub accepted-finite : (p : Prims) (set : Set) (most : Float) (k : List (List Float)) (spot found : Spot) → refine_by p set most k spot ≡ Accepted found → (i : ℕ) → i < 9 → finite (values_of k spot.sigma at i) ≡ true
+pub accepted-finite : (p : Prims) (set : Set) (most : Float) (k : List (List Float)) (spot found : Spot) → refine_by p set most k spot ≡ Some found → (i : ℕ) → i < 9 → finite (values_of k spot.sigma at i) ≡ true
 unfolding refine_by
-accepted-finite p set most k spot found h = edge_finite (values_of k spot.sigma) most spot.max (passed (edge_of (values_of k spot.sigma) most spot.max) _ Rejected h (rejected_no_spot found)).0
+accepted-finite p set most k spot found h = edge_finite (values_of k spot.sigma) most spot.max (passed (edge_of (values_of k spot.sigma) most spot.max) _ None h (rejected_no_spot found)).0
 
 -- so a value that is not finite rejects
-pub unfinite_rejects : (p : Prims) (set : Set) (most : Float) (k : List (List Float)) (spot : Spot) (i : ℕ) → i < 9 → finite (values_of k spot.sigma at i) ≡ false → refine_by p set most k spot ≡ Rejected
+pub unfinite_rejects : (p : Prims) (set : Set) (most : Float) (k : List (List Float)) (spot : Spot) (i : ℕ) → i < 9 → finite (values_of k spot.sigma at i) ≡ false → refine_by p set most k spot ≡ None
 unfinite_rejects p set most k spot i h lost = go (refine_by p set most k spot) (accepted-finite p set most k spot)
   where
-    go : (r : Refined) → ((found : Spot) → r ≡ Accepted found → (i : ℕ) → i < 9 → finite (values_of k spot.sigma at i) ≡ true) → r ≡ Rejected
-    go (Accepted found) f = let held = f found refl i h in cc
-    go Rejected f = refl
+    go : (r : Option Spot) → ((found : Spot) → r ≡ Some found → (i : ℕ) → i < 9 → finite (values_of k spot.sigma at i) ≡ true) → r ≡ None
+    go (Some found) f = let held = f found refl i h in cc
+    go None f = refl

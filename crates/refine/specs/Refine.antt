@@ -1,5 +1,5 @@
 -- The refinement: edge rejection and the place between pixels, from nine cubics by position. Definitions only.
-use Rattle.std.specs.Prelude.{ℕ, List, cond, ◌&&◌, Float}
+use Rattle.std.specs.Prelude.{ℕ, List, cond, ◌&&◌, Float, Option, Some, None}
 use Rattle.std.specs.Float.Ieee.{lt}
 use Rattle.float.specs.Small.{abs_of}
 use Rattle.float.specs.Num.{◌⊕◌, f1e_10}
@@ -11,34 +11,32 @@ unfoldable pub use Rattle.spatial.specs.Place.{index_of, sum_from, block_of, ter
 unfoldable pub use Rattle.moves.specs.Moves.{nearby}
 pub use Rattle.spatial.specs.Place.{spatial_of}
 use Rattle.refine.specs.declared.Spot.{Spot}
-use Rattle.refine.specs.declared.Refined.{Refined}
-use Rattle.refine.specs.declared.Refined.TheVariants.{Accepted, Rejected}
 
 -- the spot displaced, where both displacements pass
-unfoldable pub placed_of : Spot → ℕ → Float → Float → Refined
+unfoldable pub placed_of : Spot → ℕ → Float → Float → Option Spot
 placed_of spot index dx dy =
     cond
     (nearby dx && nearby dy)
-    (Accepted (record { x = spot.x ⊕ dx; y = spot.y ⊕ dy; sigma = spot.sigma; peak = spot.peak; octave = spot.octave; index = index; max = spot.max; dx = dx; dy = dy }))
-    Rejected
+    (Some (record { x = spot.x ⊕ dx; y = spot.y ⊕ dy; sigma = spot.sigma; peak = spot.peak; octave = spot.octave; index = index; max = spot.max; dx = dx; dy = dy }))
+    None
 
 -- The spot moved by the five numbers w of the fit. The denominator passes at exactly 1e-10, and so does w1 in size.
-unfoldable pub moved_of : Spot → ℕ → List Float → Refined
+unfoldable pub moved_of : Spot → ℕ → List Float → Option Spot
 moved_of spot index w =
     cond
     (lt (denominator_of w) f1e_10)
-    Rejected
+    None
     (cond
     (lt (abs_of (w at 0)) f1e_10)
-    Rejected
-    (cond (steep_of w spot.max) (placed_of spot index (delta_xOf w (delta_yOf w)) (delta_yOf w)) Rejected))
+    None
+    (cond (steep_of w spot.max) (placed_of spot index (delta_xOf w (delta_yOf w)) (delta_yOf w)) None))
 
 -- the spot refined by the nine cubics k, or rejected
-unfoldable pub refine_by : Prims → Set → Float → List (List Float) → Spot → Refined
+unfoldable pub refine_by : Prims → Set → Float → List (List Float) → Spot → Option Spot
 refine_by p s most k spot =
     let v = values_of k spot.sigma in
     let index = index_of s.sigmas spot.sigma in
-    cond (edge_of v most spot.max) (moved_of spot index (spatial_by p s index v)) Rejected
+    cond (edge_of v most spot.max) (moved_of spot index (spatial_by p s index v)) None
 
-abbrev pub refine_of : Set → Float → List (List Float) → Spot → Refined
+abbrev pub refine_of : Set → Float → List (List Float) → Spot → Option Spot
 refine_of = refine_by ours

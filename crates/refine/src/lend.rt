@@ -2,11 +2,12 @@
 ghost use Rattle.std.specs.Prelude.{◌≡◌};
 ghost use Rattle.refine.specs.Lend.{lent_of};
 
+use crate::Spot;
 use crate::refine::refine_keypoint_2d;
-use crate::{Refined, Spot};
 use tables::Set;
 
 // The spot that the refinement leaves, and whether it accepted.
+// Stays: `lent_of`, which the promises here and the probe's exported `probe_refine` cite, says which spot is left where none is accepted.
 #[derive(Clone, Copy)]
 pub struct Settled {
     pub spot: Spot,
@@ -18,11 +19,11 @@ pub fn settle(set: Set, spot: Spot, k: &[[f32; 4]; 9], ratio: f32) -> Settled
     ensures { result ≡ lent_of set ratio k.now spot }
 {
     match refine_keypoint_2d(set, spot, k, ratio) {
-        Refined::Accepted(found) => Settled {
+        Some(found) => Settled {
             spot: found,
             ok: true,
         },
-        Refined::Rejected => Settled { spot, ok: false },
+        None => Settled { spot, ok: false },
     }
 }
 

@@ -19,10 +19,3 @@ pub struct Spot {
     pub dx: f32,
     pub dy: f32,
 }
-
-// What the refinement answers.
-#[derive(Clone, Copy)]
-pub enum Refined {
-    Accepted(Spot),
-    Rejected,
-}

@@ -2,3 +2,4 @@
 pub mod Ring
 -- only inner functions cite this
 pub mod Lent
+pub mod Given

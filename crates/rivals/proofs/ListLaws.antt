@@ -4,10 +4,11 @@ use native.Mathlib.Nat.{ne_of_lt}
 use native.Mathlib.Omega.{arith}
 use mathlib.Core.Path.{◌≡◌, refl, ◌∙◌, subst}
 use mathlib.Core.Logic.{◌⊎◌, inl, inr, ⊎_elim}
-use mathlib.Core.Bool.{Bool, true, false, cond}
+use mathlib.Core.Bool.{Bool, true, false, cond, not}
 use mathlib.Core.List.{List}
 use lib.ListN.{length, get_or, set, length-set}
 use lib.Seq.{get_or-set_same, get_or-set_other}
+use mir.Val.{bool_byte}
 use borrow.Author.Count.{below_none, below_more}
 use Rattle.rivals.specs.List.{Among, Coded, Packed, Thinned}
 
@@ -110,6 +111,11 @@ module _ (Q : ℕ → Type 0) (before : List ℕ) where
       go : (test : Bool) → (test ≡ true → Q (get_or l j 0)) → m < length l → b ≡ cond test 0 1 → Among (set l m (get_or l j 0)) (m + b) (get_or l j 0) ⊎ Q (get_or l j 0)
       go true gives room e = inr (gives refl)
       go false gives room e = inl (among_here l m (get_or l j 0) b room e)
+
+-- a code counts unless the test holds of it
+pub counted_not : {b : ℕ} (test : Bool) → b ≡ bool_byte (not test) → (b ≡ cond test 0 1) × (b ≤ 1)
+counted_not true e = (e, omega arith)
+counted_not false e = (e, omega arith)
 
 -- a code of the list before is among those after it, or has Q
 pub thinned_code : {Q : ℕ → Type 0} {codes codes' : List ℕ} {m k e : ℕ} → Thinned Q codes m codes' k → Among codes m e → Among codes' k e ⊎ Q e

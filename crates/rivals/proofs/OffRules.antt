@@ -1,4 +1,5 @@
 -- What the lists rule out lists nothing. Assumes nothing.
+use Rattle.std.specs.Prelude.{Option, Some, None}
 use Prim.Native.Nat.{ℕ, zero, suc, ◌+◌, ◌/◌, ◌%◌, ◌<◌}
 use native.Mathlib.Omega.{arith}
 use mathlib.Core.Path.{◌≡◌, refl, sym, ap, ◌∙◌, subst}
@@ -19,14 +20,10 @@ use Rattle.fit.specs.Cubic.{◌at◌, coeffs_of, horner_of}
 use Rattle.fit.specs.Band.{sign_of, stationary_of, band_of}
 use Rattle.fit.specs.Owned.{owned_by}
 use Rattle.fit.specs.declared.Band.{Band}
-use Rattle.fit.specs.declared.Stationary.TheVariants.{At}
 use Rattle.refine.specs.Refine.{refine_of}
-use Rattle.refine.specs.declared.Refined.{Refined}
-use Rattle.refine.specs.declared.Refined.TheVariants.{Accepted, Rejected}
 use Rattle.pixel.specs.Verdict.{verdict_of}
 use Rattle.pixel.specs.Rules.{cubics_at, own_samples, own_cubic}
 use Rattle.pixel.specs.declared.Frame.{Frame}
-use Rattle.pixel.specs.declared.Verdict.TheVariants.{Nothing}
 use Rattle.pixel.proofs.RuleOut.{wild, own-cubic, point-rules, low-rules, high-rules, refusal-rules}
 use Rattle.columns.specs.Stat.{point_of, height_of, cubic_in}
 use Rattle.columns.specs.Gate.{pass_of, word_of}
@@ -41,6 +38,7 @@ use Rattle.rivals.specs.Off.{code_of, bit_of, Off, unmarked, reached, fallen}
 use Rattle.rivals.specs.Ready.{Ready, ReadyAt, place_of, Around}
 use Rattle.pixel.proofs.NineLaws.{length_cubics, cubics_place}
 use Rattle.rivals.proofs.WordRules.{word-rules}
+use Rattle.refine.specs.declared.Spot.{Spot}
 
 -- ---- tests
 
@@ -80,10 +78,10 @@ module _ {s : Set} {th : Thresholds} {l k : List Float} {p v q u : Float} {w : �
   height-is false = r.low-height
 
   -- a point that is a number is the stationary point
-  pub number-told : (is_max : Bool) → is_nan (here is_max) ≡ false → (stationary_of made is_max ≡ At (here is_max)) × (height is_max ≡ sign_of is_max ⊗ horner_of made (here is_max))
+  pub number-told : (is_max : Bool) → is_nan (here is_max) ≡ false → (stationary_of made is_max ≡ Some (here is_max)) × (height is_max ≡ sign_of is_max ⊗ horner_of made (here is_max))
   number-told is_max h =
       let t = told-point made is_max r.root (coefficient_fits s.scale l) r.known (ap is_nan (sym (here-is is_max)) ∙ h) in
-      (t.0 ∙ ap At (sym (here-is is_max)), height-is is_max ∙ t.1 ∙ ap (λ (x : Float). sign_of is_max ⊗ horner_of made x) (sym (here-is is_max)))
+      (t.0 ∙ ap Some (sym (here-is is_max)), height-is is_max ∙ t.1 ∙ ap (λ (x : Float). sign_of is_max ⊗ horner_of made x) (sym (here-is is_max)))
 
   -- a word with the polarity's bit says that the point passed
   pub bit_told : (is_max : Bool) → bit_of w is_max ≡ 1 → (owned_by l is_max ≡ true) × (pass_of (window_of th) (here is_max) (height is_max) ≡ true)
@@ -161,10 +159,10 @@ nine_in_long : (x y z i : ℕ) (a b c d : List Float) → length (nine_in x y z 
 unfolding nine_in
 nine_in_long x y z i a b c d = refl
 
-not-accepted : (r : Refined) → accepted_of r ≡ false → r ≡ Rejected
+not-accepted : (r : Option Spot) → accepted_of r ≡ false → r ≡ None
 unfolding accepted_of
-not-accepted (Accepted spot) h = absurd (true≢false h)
-not-accepted Rejected h = refl
+not-accepted (Some spot) h = absurd (true≢false h)
+not-accepted None h = refl
 
 -- the nine cubics are those of nine samples, if each of them is
 pub cubics_in : (s : Set) (nine : List (List Float)) (x y z i : ℕ) (a b c d : List Float) → length nine ≡ 9
@@ -181,7 +179,7 @@ module _ (s : Set) (th : Thresholds) (f : Frame) (nine : List (List Float)) (row
   enough j h = subst (λ (n : ℕ). j < n) (sym long) h
 
   -- a word below 4 without the polarity's bit
-  pub unmarked-rules : (is_max : Bool) → get_or w m 0 < 4 → bit_of (get_or w m 0) is_max ≡ 0 → verdict_of s th f nine row col is_max ≡ Nothing
+  pub unmarked-rules : (is_max : Bool) → get_or w m 0 < 4 → bit_of (get_or w m 0) is_max ≡ 0 → verdict_of s th f nine row col is_max ≡ None
   unmarked-rules is_max small h = word-rules s th f nine row col is_max own.root own.known (subst (λ (n : ℕ). n < 4) word small) (subst (λ (n : ℕ). bit_of n is_max ≡ 0) word h)
     where
       word : get_or w m 0 ≡ word_of (window_of th) (own_samples nine) (point_of (sign_of false) (made own) own.root) (height_of (sign_of false) (made own) own.root) (point_of (sign_of true) (made own) own.root) (height_of (sign_of true) (made own) own.root) own.root
@@ -204,7 +202,7 @@ module _ (s : Set) (th : Thresholds) (f : Frame) (nine : List (List Float)) (row
     same-cubic : own_cubic s nine ≡ made own
     same-cubic = own-cubic s nine (enough 4 (omega arith))
 
-    stationary : stationary_of (own_cubic s nine) is_max ≡ At point
+    stationary : stationary_of (own_cubic s nine) is_max ≡ Some point
     stationary = ap (λ (k : List Float). stationary_of k is_max) same-cubic ∙ (number-told own is_max (own-told own is_max small set).1).0
 
     value : height own is_max ≡ sign_of is_max ⊗ horner_of (own_cubic s nine) point
@@ -212,7 +210,7 @@ module _ (s : Set) (th : Thresholds) (f : Frame) (nine : List (List Float)) (row
 
     -- the point of the j-th of the nine, which stands at place q
     pub rule_point : (j q idx : ℕ) → j < 9 → eqb j 4 ≡ false → ReadyAt s th (get_or nine j []) a b c d p v w q → idx ≡ cond is_max (780 + q) q →
-        reaches_at (band_of s.sigmas (p at e)) (v at e) p v idx ≡ true → verdict_of s th f nine row col is_max ≡ Nothing
+        reaches_at (band_of s.sigmas (p at e)) (v at e) p v idx ≡ true → verdict_of s th f nine row col is_max ≡ None
     rule_point j q idx h other r is reaching =
         let t = reaches-told _ _ _ _ (sym same ∙ reaching) in
         let n = number-told r is_max (below_number _ _ (subst T (sym t.0) tt)).1 in
@@ -223,7 +221,7 @@ module _ (s : Set) (th : Thresholds) (f : Frame) (nine : List (List Float)) (row
         same = rw (own-point, own-height, is, picked p is_max (780 + q) q, picked v is_max (780 + q) q)
 
     -- its cubic k, at an end of the band
-    pub rule_end : (j : ℕ) (k : List Float) → j < 9 → eqb j 4 ≡ false → k ≡ coeffs_of s.scale (get_or nine j []) → ends k (sign_of is_max) (v at e) (band_of s.sigmas (p at e)) ≡ true → verdict_of s th f nine row col is_max ≡ Nothing
+    pub rule_end : (j : ℕ) (k : List Float) → j < 9 → eqb j 4 ≡ false → k ≡ coeffs_of s.scale (get_or nine j []) → ends k (sign_of is_max) (v at e) (band_of s.sigmas (p at e)) ≡ true → verdict_of s th f nine row col is_max ≡ None
     unfolding ends
     rule_end j k h other cubic reaching =
         either_of _ _ (rw (own-point, own-height) at reaching)
@@ -235,7 +233,7 @@ module _ (s : Set) (th : Thresholds) (f : Frame) (nine : List (List Float)) (row
             ∙ ap (λ (x : List Float). le (sign_of is_max ⊗ horner_of (own_cubic s nine) point) (sign_of is_max ⊗ horner_of x q)) cubic) ∙ t)) tt
 
     -- the refinement, by the nine cubics k
-    pub rule_refused : (k : List (List Float)) → k ≡ cubics_at s nine → accepted_of (refine_of s th.ratio k (spot_of (p at e) is_max)) ≡ false → verdict_of s th f nine row col is_max ≡ Nothing
+    pub rule_refused : (k : List (List Float)) → k ≡ cubics_at s nine → accepted_of (refine_of s th.ratio k (spot_of (p at e) is_max)) ≡ false → verdict_of s th f nine row col is_max ≡ None
     rule_refused k cubics refused =
         refusal-rules s th f nine row col is_max tame point stationary (spot_of point is_max) refl refl
         (ap (λ (x : List (List Float)). refine_of s th.ratio x (spot_of point is_max)) (sym cubics) ∙ not-accepted _ (subst (λ (x : Float). accepted_of (refine_of s th.ratio k (spot_of x is_max)) ≡ false) own-point refused))
@@ -248,15 +246,15 @@ module _ (s : Set) (th : Thresholds) (f : Frame) (nine : List (List Float)) (row
 
   module _ (is_max : Bool) (small : get_or w (y + i + 1) 0 < 4) (set : bit_of (get_or w (y + i + 1) 0) is_max ≡ 1) where
     reach_at : (j idx : ℕ) → j < 9 → eqb j 4 ≡ false → idx ≡ cond is_max (780 + place_of x y z i j) (place_of x y z i j) →
-        reaches_at (band_of s.sigmas (p at (y + code_of i is_max + 1))) (v at (y + code_of i is_max + 1)) p v idx ≡ true → verdict_of s th f nine row col is_max ≡ Nothing
+        reaches_at (band_of s.sigmas (p at (y + code_of i is_max + 1))) (v at (y + code_of i is_max + 1)) p v idx ≡ true → verdict_of s th f nine row col is_max ≡ None
     reach_at j idx h other = rule_point s th f nine row col (y + i + 1) a b c d p v w around.long own is_max small set (y + code_of i is_max + 1) (code_index is_max y i 1) j (place_of x y z i j) idx h other (around.places j h)
 
     end_at : (j q : ℕ) → j < 9 → eqb j 4 ≡ false → q ≡ place_of x y z i j →
-        ends_at a b c d (sign_of is_max) (v at (y + code_of i is_max + 1)) (band_of s.sigmas (p at (y + code_of i is_max + 1))) q ≡ true → verdict_of s th f nine row col is_max ≡ Nothing
+        ends_at a b c d (sign_of is_max) (v at (y + code_of i is_max + 1)) (band_of s.sigmas (p at (y + code_of i is_max + 1))) q ≡ true → verdict_of s th f nine row col is_max ≡ None
     end_at j q h other is =
         rule_end s th f nine row col (y + i + 1) a b c d p v w around.long own is_max small set (y + code_of i is_max + 1) (code_index is_max y i 1) j (cubic_in a b c d q) h other (ap (cubic_in a b c d) is ∙ (around.places j h).cubic)
 
-    reached-rules : reached_of s.sigmas x y z (code_of i is_max) p v ≡ true → verdict_of s th f nine row col is_max ≡ Nothing
+    reached-rules : reached_of s.sigmas x y z (code_of i is_max) p v ≡ true → verdict_of s th f nine row col is_max ≡ None
     unfolding reached_of
     reached-rules t =
         one_of _ _ _ _ _ _ _ _ t
@@ -269,7 +267,7 @@ module _ (s : Set) (th : Thresholds) (f : Frame) (nine : List (List Float)) (row
         (reach_at 5 (z + code_of i is_max + 1) (omega arith) refl (code_index is_max z i 1))
         (reach_at 8 (z + code_of i is_max + 2) (omega arith) refl (code_index is_max z i 2))
 
-    ended_rules : ended_of x y z i a b c d (sign_of is_max) (v at (y + code_of i is_max + 1)) (band_of s.sigmas (p at (y + code_of i is_max + 1))) ≡ true → verdict_of s th f nine row col is_max ≡ Nothing
+    ended_rules : ended_of x y z i a b c d (sign_of is_max) (v at (y + code_of i is_max + 1)) (band_of s.sigmas (p at (y + code_of i is_max + 1))) ≡ true → verdict_of s th f nine row col is_max ≡ None
     unfolding ended_of
     ended_rules t =
         one_of _ _ _ _ _ _ _ _ t
@@ -282,7 +280,7 @@ module _ (s : Set) (th : Thresholds) (f : Frame) (nine : List (List Float)) (row
         (end_at 5 (z + i + 1) (omega arith) refl refl)
         (end_at 8 (z + i + 2) (omega arith) refl refl)
 
-    fallen-rules : i < 254 → survives_of s th.ratio x y z (code_of i is_max) a b c d p v ≡ false → verdict_of s th f nine row col is_max ≡ Nothing
+    fallen-rules : i < 254 → survives_of s th.ratio x y z (code_of i is_max) a b c d p v ≡ false → verdict_of s th f nine row col is_max ≡ None
     unfolding survives_of
     fallen-rules short t = go (ended_of x y z i a b c d (sign_of is_max) val (band_of s.sigmas sigma)) refl (rw (code_row is_max i short, code_high is_max i short) at t)
       where
@@ -293,14 +291,14 @@ module _ (s : Set) (th : Thresholds) (f : Frame) (nine : List (List Float)) (row
         val = v at (y + code_of i is_max + 1)
 
         go : (e : Bool) → ended_of x y z i a b c d (sign_of is_max) val (band_of s.sigmas sigma) ≡ e →
-            (not e && accepted_of (refine_of s th.ratio (nine_in x y z i a b c d) (spot_of sigma is_max))) ≡ false → verdict_of s th f nine row col is_max ≡ Nothing
+            (not e && accepted_of (refine_of s th.ratio (nine_in x y z i a b c d) (spot_of sigma is_max))) ≡ false → verdict_of s th f nine row col is_max ≡ None
         go true e k = ended_rules e
         go false e k =
             rule_refused s th f nine row col (y + i + 1) a b c d p v w around.long own is_max small set (y + code_of i is_max + 1) (code_index is_max y i 1) (nine_in x y z i a b c d)
             (cubics_in s nine x y z i a b c d around.long (λ j h. (around.places j h).cubic)) k
 
   -- ---- what the lists rule out lists nothing
-  pub off-rules : (is_max : Bool) → i < 254 → get_or w (y + i + 1) 0 < 4 → Off s th.ratio x y z a b c d p v w i is_max → verdict_of s th f nine row col is_max ≡ Nothing
+  pub off-rules : (is_max : Bool) → i < 254 → get_or w (y + i + 1) 0 < 4 → Off s th.ratio x y z a b c d p v w i is_max → verdict_of s th f nine row col is_max ≡ None
   off-rules is_max short small (unmarked h) = unmarked-rules s th f nine row col (y + i + 1) a b c d p v w around.long own is_max small h
   off-rules is_max short small (reached h t) = reached-rules is_max small h t
   off-rules is_max short small (fallen h t) = fallen-rules is_max small h short t

@@ -1,4 +1,5 @@
 -- A word whose bit of a polarity and whose open bit are not set rules the pixel out at that polarity. Assumes nothing.
+use Rattle.std.specs.Prelude.{None}
 use Prim.Native.Nat.{ℕ, ◌/◌, ◌%◌, ◌<◌}
 use mathlib.Core.Path.{◌≡◌, refl, sym, ap, ◌∙◌}
 use mathlib.Core.List.{List}
@@ -15,7 +16,6 @@ use Rattle.fit.specs.Owned.{owned_by}
 use Rattle.pixel.specs.Verdict.{verdict_of}
 use Rattle.pixel.specs.Rules.{own_samples}
 use Rattle.pixel.specs.declared.Frame.{Frame}
-use Rattle.pixel.specs.declared.Verdict.TheVariants.{Nothing}
 use Rattle.pixel.proofs.RuleOut.{wild, passes, unowned_off, nowhere-off, point-off, gate_rules}
 use Rattle.columns.specs.Coef.{under_root}
 use Rattle.columns.specs.Known.{Known}
@@ -64,7 +64,7 @@ module _ (s : Set) (th : Thresholds) (f : Frame) (nine : List (List Float)) (row
   -- from the root and the points of both polarities
   pub word-rules : (root : Float) → Known root (under_root k) →
       let w : ℕ = word_of (window_of th) l (point_of (sign_of false) k root) (height_of (sign_of false) k root) (point_of (sign_of true) k root) (height_of (sign_of true) k root) root in
-      w < 4 → cond is_max (w / 2 % 2) (w % 2) ≡ 0 → verdict_of s th f nine row col is_max ≡ Nothing
+      w < 4 → cond is_max (w / 2 % 2) (w % 2) ≡ 0 → verdict_of s th f nine row col is_max ≡ None
   word-rules root known small off = gate_rules s th f nine row col is_max (go (owned_by l is_max) refl)
     where
       p : Bool → Float

@@ -1,5 +1,5 @@
 -- A candidate that a neighbour reaches at an end of its band, and one that the refinement refuses. Definitions only.
-use Rattle.std.specs.Prelude.{ℕ, ◌+◌, ◌%◌, Bool, true, false, not, ◌&&◌, ◌||◌, List, [], ◌∷◌, leb, Float}
+use Rattle.std.specs.Prelude.{ℕ, ◌+◌, ◌%◌, Bool, true, false, not, ◌&&◌, ◌||◌, List, [], ◌∷◌, leb, Float, Option, Some, None}
 use Rattle.std.specs.Float.Ieee.{le}
 use Rattle.float.specs.Num.{◌⊗◌, f0}
 use Rattle.tables.specs.declared.Set.{Set}
@@ -8,8 +8,6 @@ use Rattle.fit.specs.Band.{sign_of, band_of}
 use Rattle.fit.specs.declared.Band.{Band}
 use Rattle.refine.specs.Refine.{refine_of}
 use Rattle.refine.specs.declared.Spot.{Spot}
-use Rattle.refine.specs.declared.Refined.{Refined}
-use Rattle.refine.specs.declared.Refined.TheVariants.{Accepted, Rejected}
 use Rattle.columns.specs.Stat.{cubic_in}
 
 -- the cubic k reaches val at one of the band's ends, with the polarity's sign
@@ -39,9 +37,9 @@ abbrev pub spot_of : Float → Bool → Spot
 spot_of sigma is_max = record { x = f0; y = f0; sigma = sigma; peak = f0; octave = 0; index = 0; max = is_max; dx = f0; dy = f0 }
 
 -- the refinement accepts
-unfoldable pub accepted_of : Refined → Bool
-accepted_of (Accepted spot) = true
-accepted_of Rejected = false
+unfoldable pub accepted_of : Option Spot → Bool
+accepted_of (Some spot) = true
+accepted_of None = false
 
 -- the candidate e is neither reached at an end of its band nor refused
 unfoldable pub survives_of : Set → Float → ℕ → ℕ → ℕ → ℕ → List Float → List Float → List Float → List Float → List Float → List Float → Bool

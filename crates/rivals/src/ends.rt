@@ -6,9 +6,10 @@ ghost use Rattle.columns.specs.Stat.{cubic_in};
 ghost use Rattle.rivals.specs.List.{Coded, Raised};
 ghost use Rattle.rivals.specs.Ends.{ends, ended_of, nine_in, spot_of, accepted_of, survives_of};
 
+use crate::list::raise_codes;
 use fit::Band;
 use fit::scale_fit::sign_of;
-use refine::{Refined, Spot};
+use refine::Spot;
 use tables::Set;
 
 // The cubic at place m of the rings.
@@ -133,10 +134,7 @@ pub fn accepts(set: Set, ratio: f32, k: &[[f32; 4]; 9], sigma: f32, is_max: bool
         dx: 0.0,
         dy: 0.0,
     };
-    match refine::refine::refine_keypoint_2d(set, spot, k, ratio) {
-        Refined::Accepted(_) => true,
-        Refined::Rejected => false,
-    }
+    refine::refine::refine_keypoint_2d(set, spot, k, ratio).is_some()
 }
 
 // The candidate e is neither reached at an end of its band nor refused.
@@ -171,13 +169,8 @@ fn survives(
     accepts(set, ratio, &nine, sigma, is_max)
 }
 
-pub fn raised(old: u8, test: bool) -> u8
-    ensures { result ≡ cond test 1 old }
-{
-    if test { 1 } else { old }
-}
-
 // 1 for each pixel that has a candidate left.
+// Stays: the list comes with its length and is cut here, where each caller would cut it instead.
 pub fn mark_list(
     set: Set,
     ratio: f32,
@@ -196,15 +189,11 @@ pub fn mark_list(
 )
     requires x_bound { (x ≤ 520) × (y ≤ 520) }
     requires z_bound { (z ≤ 520) × (k ≤ 512) }
-    requires keep_len { (length keep.old ≡ 256) × Coded codes.now k }
+    requires coded { Coded codes.now k }
     ensures { Raised (λ e. survives_of set ratio x y z e a.now b.now c.now d.now p.now v.now ≡ false)
         codes.now k keep.old keep.new }
 {
-    let mut j: usize = 0;
-    while j < k {
-        let e = codes[j] as usize;
-        let left = survives(set, ratio, x, y, z, e, a, b, c, d, p, v);
-        keep[e % 780] = raised(keep[e % 780], left);
-        j += 1;
-    }
+    raise_codes(&codes[..k], keep, |e| {
+        survives(set, ratio, x, y, z, e, a, b, c, d, p, v)
+    });
 }

@@ -4,6 +4,7 @@
 #![tactic(auto)]
 
 pub mod ends;
+pub mod list;
 pub mod near;
 pub mod pack;
 pub mod thin;

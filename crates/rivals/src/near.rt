@@ -4,6 +4,7 @@ ghost use Rattle.fit.specs.Cubic.{◌at◌};
 ghost use Rattle.rivals.specs.List.{Coded, Thinned};
 ghost use Rattle.rivals.specs.Near.{reaches, reached_of};
 
+use crate::list::thin_codes;
 use fit::Band;
 
 // The value v at p, inside the band, reaches val.
@@ -53,13 +54,8 @@ fn is_reached(
         | is_three(p, v, z + e, val, band)
 }
 
-pub fn one_if_not(test: bool) -> usize
-    ensures { (result ≡ cond test 0 1) × (result ≤ 1) }
-{
-    if test { 0 } else { 1 }
-}
-
-// The candidates that none reaches, packed again without a branch; answers how many.
+// The candidates that none reaches; answers how many.
+// Stays: the list comes with its length and is cut here, where each caller would cut it instead.
 pub fn stat_list(
     sigmas: [f32; 4],
     x: usize,
@@ -72,16 +68,11 @@ pub fn stat_list(
 ) -> usize
     requires x_bound { (x ≤ 520) × (y ≤ 520) }
     requires z_bound { (z ≤ 520) × (k ≤ 512) }
-    requires codes_len { (length codes.old ≡ 512) × Coded codes.old k }
+    requires coded { Coded codes.old k }
     ensures { Thinned (λ e. reached_of sigmas x y z e p.now v.now ≡ true) codes.old k codes.new result }
 {
-    let mut m: usize = 0;
-    let mut j: usize = 0;
-    while j < k {
-        let e = codes[j];
-        codes[m] = e;
-        m += one_if_not(is_reached(sigmas, x, y, z, e as usize, p, v));
-        j += 1;
-    }
-    m
+    thin_codes(
+        &mut codes[..k],
+        move |e| is_reached(sigmas, x, y, z, e, p, v),
+    )
 }

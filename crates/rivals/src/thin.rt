@@ -26,7 +26,6 @@ fn listed(
 )
     requires x_bound { (x ≤ 520) × (y ≤ 520) }
     requires z_bound { (z ≤ 520) × (n ≤ 254) }
-    requires keep_len { length keep.old ≡ 256 }
     ensures { Thin set ratio n x y z a.now b.now c.now d.now p.now v.now w.now keep.new }
 {
     let mut codes = [0u32; 512];
@@ -57,7 +56,7 @@ pub fn thin(
 )
     requires x_bound { (x ≤ 520) × (y ≤ 520) }
     requires z_bound { (z ≤ 520) × (n ≤ 254) }
-    requires keep_len { (length keep.old ≡ 256) × ((i : ℕ) → i < n → get_or w.now (y + i + 1) 0 ≤ any) }
+    requires by_index { (i : ℕ) → i < n → get_or w.now (y + i + 1) 0 ≤ any }
     ensures { Thin set ratio n x y z a.now b.now c.now d.now p.now v.now w.now keep.new }
 {
     if any == 0 {

@@ -1,15 +1,13 @@
 -- The judged column by blocks: what a block marks, and the marks of one block more. Assumes nothing.
 use Prim.Native.Nat.{ℕ, ◌+◌, ◌-◌, ◌≤◌, ◌<◌}
-use native.Mathlib.Nat.{ne_of_lt}
 use native.Mathlib.Omega.{arith}
-use mathlib.Core.Path.{◌≡◌, refl, sym, ap, ◌∙◌, subst}
+use mathlib.Core.Path.{◌≡◌, sym, ap, ◌∙◌, subst}
 use mathlib.Core.Bool.{Bool, true, false, not}
 use mathlib.Core.List.{List, []}
 use lib.Dec.{T, ltb, ltb→lt, nltb→le}
-use lib.ListN.{length, get_or, set, length-set}
-use lib.Seq.{get_or-set_same, get_or-set_other}
+use lib.ListN.{length, get_or}
 use lib.Ieee.{Float}
-use borrow.Author.Count.{below_none, below_more}
+use borrow.Author.Count.{below_none}
 use Rattle.pixel.specs.Listed.{both_listed}
 use Rattle.pixel.proofs.ListedLaws.{both_nothing}
 use Rattle.samples.specs.Level.{nine_of}
@@ -75,15 +73,3 @@ ruled-more {s} {ring} {given} {n} {j} {m} {keep} {marks} {marks'} old reach part
 -- all of them
 pub ruled-all : {s : State} {ring given : Four} {n j : ℕ} {marks : List ℕ} → n ≤ j → RuledTo s ring given n j marks → Ruled s ring given n marks
 ruled-all past to = record { long = to.long; ruled = λ i h. to.ruled i (omega arith) h }
-
--- ---- the marks of a block, put one by one
-
-pub copied_none : (j : ℕ) (keep marks : List ℕ) → Copied j 0 keep marks marks
-copied_none j keep marks = record { here = below_none _; same = λ i h. refl; long = refl }
-
-pub copied_more : {j i : ℕ} {keep before after : List ℕ} (v : ℕ) → Copied j i keep before after → j + i < length before → v ≡ get_or keep i 0 → Copied j (i + 1) keep before (set after (j + i) v)
-copied_more {j} {i} {keep} {before} {after} v old room is = record {
-  here = below_more (λ k. get_or (set after (j + i) v) (j + k) 0 ≡ get_or keep k 0) i (λ k h. get_or-set_other after (j + i) (j + k) v 0 (ne_of_lt (omega arith)) ∙ old.here k h) (get_or-set_same after (j + i) v 0 (omega (arith, old.long)) ∙ is);
-  same = λ k h. get_or-set_other after (j + i) k v 0 (ne_of_lt (omega arith)) ∙ old.same k h;
-  long = length-set after (j + i) v ∙ old.long;
-}

@@ -1,4 +1,5 @@
 -- Laws of a scene's tiles, one after the other. Assumes nothing.
+use Rattle.std.specs.Prelude.{Option, Some, None, Ok}
 use Prim.Native.Nat.{ℕ, suc, ◌+◌, ◌-◌, ◌*◌, ◌/◌, ◌%◌, ◌≤◌, ◌<◌, min}
 use native.Mathlib.Numerals.{add-one}
 use native.Mathlib.Nat.{mul-le-mul, div-lt_iff_lt-mul, mod-lt}
@@ -23,8 +24,6 @@ use Rattle.tiles.specs.Copy.{gather}
 use Rattle.tiles.proofs.TilesLaws.{some-tile}
 use Rattle.tile.specs.Numbered.{numbered_width, numbered, tile_bytes}
 use Rattle.tile.specs.Tile.{Filling, filling, fill_of}
-use Rattle.tile.specs.declared.Filled.{Filled}
-use Rattle.tile.specs.declared.Filled.TheVariants.{WholeTile, Full}
 use Rattle.tile.proofs.NumberedLaws.{length-tile_bytes, long-map}
 use Rattle.scene.specs.declared.Answer.TheVariants as answer
 use Rattle.scene_checks.specs.Checks.{SceneIn}
@@ -41,25 +40,25 @@ record Wrote (s : Set) (i j : ℕ) (rs : List Record) (done n : ℕ) (out out' :
   room : (done + length rs) * numbered_width ≤ length out
   bytes : out' ≡ sets out (done * numbered_width) (tile_bytes s i j rs)
 
-wrote : (s : Set) (i j : ℕ) (rs : List Record) (done n : ℕ) (out out' : List ℕ) → filling (WholeTile n) out' ≡ fill_of s i j rs done out → Wrote s i j rs done n out out'
+wrote : (s : Set) (i j : ℕ) (rs : List Record) (done n : ℕ) (out out' : List ℕ) → filling (Some n) out' ≡ fill_of s i j rs done out → Wrote s i j rs done n out out'
 unfolding fill_of
 wrote s i j rs done n out out' e = go (leb ((done + length rs) * numbered_width) (length out)) refl e
   where
     go : (b : Bool) → leb ((done + length rs) * numbered_width) (length out) ≡ b
-        → filling (WholeTile n) out' ≡ cond b (filling (WholeTile (done + length rs)) (sets out (done * numbered_width) (tile_bytes s i j rs))) (filling Full out) → Wrote s i j rs done n out out'
+        → filling (Some n) out' ≡ cond b (filling (Some (done + length rs)) (sets out (done * numbered_width) (tile_bytes s i j rs))) (filling None out) → Wrote s i j rs done n out out'
     go true f g =
-        let a : WholeTile n ≡ WholeTile (done + length rs) = ap (λ (x : Filling). x.answer) g in
+        let a : Some n ≡ Some (done + length rs) = ap (λ (x : Filling). x.answer) g in
         record { count = cc; room = leb-true _ _ f; bytes = ap (λ (x : Filling). x.out) g }
-    go false f g = let a : WholeTile n ≡ Full = ap (λ (x : Filling). x.answer) g in let z : ◌≡◌ {A = ℕ} 0 1 = cc in let y : ⊥ = omega arith in absurd y
+    go false f g = let a : Some n ≡ None = ap (λ (x : Filling). x.answer) g in let z : ◌≡◌ {A = ℕ} 0 1 = cc in let y : ⊥ = omega arith in absurd y
 
-no_room : (s : Set) (i j : ℕ) (rs : List Record) (done : ℕ) (out out' : List ℕ) → filling Full out' ≡ fill_of s i j rs done out → (length out < (done + length rs) * numbered_width) × (out' ≡ out)
+no_room : (s : Set) (i j : ℕ) (rs : List Record) (done : ℕ) (out out' : List ℕ) → filling None out' ≡ fill_of s i j rs done out → (length out < (done + length rs) * numbered_width) × (out' ≡ out)
 unfolding fill_of
 no_room s i j rs done out out' e = go (leb ((done + length rs) * numbered_width) (length out)) refl e
   where
     go : (b : Bool) → leb ((done + length rs) * numbered_width) (length out) ≡ b
-        → filling Full out' ≡ cond b (filling (WholeTile (done + length rs)) (sets out (done * numbered_width) (tile_bytes s i j rs))) (filling Full out)
+        → filling None out' ≡ cond b (filling (Some (done + length rs)) (sets out (done * numbered_width) (tile_bytes s i j rs))) (filling None out)
         → (length out < (done + length rs) * numbered_width) × (out' ≡ out)
-    go true f g = let a : Full ≡ WholeTile (done + length rs) = ap (λ (x : Filling). x.answer) g in let z : ◌≡◌ {A = ℕ} 0 1 = cc in let y : ⊥ = omega arith in absurd y
+    go true f g = let a : None ≡ Some (done + length rs) = ap (λ (x : Filling). x.answer) g in let z : ◌≡◌ {A = ℕ} 0 1 = cc in let y : ⊥ = omega arith in absurd y
     go false f g = (leb-false _ _ f, ap (λ (x : Filling). x.out) g)
 
 -- bytes after bytes
@@ -110,7 +109,7 @@ module _ (m : Maps) (t0 t1 t2 t3 : List Float) (out : List ℕ) where
     pub lies : done * numbered_width ≤ length out'
     lies = let f = g.fits in omega (arith, long-out, length-bytes_to tile_step m k, g.listed)
 
-    module _ (u0 u1 u2 u3 : List Float) (out'' : List ℕ) (r : Filled) (a : TileAfter m (k / wide) (k % wide) done t0' t1' t2' t3' u0 u1 u2 u3 out' out'' r) where
+    module _ (u0 u1 u2 u3 : List Float) (out'' : List ℕ) (r : Option ℕ) (a : TileAfter m (k / wide) (k % wide) done t0' t1' t2' t3' u0 u1 u2 u3 out' out'' r) where
       abbrev rs : List Record
       rs = due (tile_maps tile_step m (k / wide) (k % wide))
 
@@ -129,7 +128,7 @@ module _ (m : Maps) (t0 t1 t2 t3 : List Float) (out : List ℕ) where
       room-is : length (bytes_to tile_step m (suc k)) ≡ (done + length rs) * numbered_width
       room-is = length-bytes_to tile_step m (suc k) ∙ ap (λ x. x * numbered_width) next-count
 
-      pub next-tiles : (n : ℕ) → r ≡ WholeTile n → After-tiles m t0 t1 t2 t3 out (k + 1) n u0 u1 u2 u3 out''
+      pub next-tiles : (n : ℕ) → r ≡ Some n → After-tiles m t0 t1 t2 t3 out (k + 1) n u0 u1 u2 u3 out''
       unfolding copies_to
       next-tiles n e =
           let x = wrote m.set (k / wide) (k % wide) rs done n out' out'' (rw e at a.fills) in
@@ -157,7 +156,7 @@ module _ (m : Maps) (t0 t1 t2 t3 : List Float) (out : List ℕ) where
             same_out = a.same_out ∙ g.same_out;
           }
 
-      pub full-tiles : r ≡ Full → after (answer.Full k) u0 u1 u2 u3 out'' ≡ left_all m t0 t1 t2 t3 out
+      pub full-tiles : r ≡ None → after (Ok (answer.Full k)) u0 u1 u2 u3 out'' ≡ left_all m t0 t1 t2 t3 out
       unfolding left_of answer_of copied_of copies_to
       full-tiles e =
           let x = no_room m.set (k / wide) (k % wide) rs done out' out'' (rw e at a.fills) in
@@ -168,18 +167,18 @@ module _ (m : Maps) (t0 t1 t2 t3 : List Float) (out : List ℕ) where
           rw (n, ne_eqb k total (λ z. let y : ⊥ = omega arith in y), c, a.left0, a.left1, a.left2, a.left3, x.1, g.written, g.left0, g.left1, g.left2, g.left3)
 
     -- the same, with the number of tiles across as the code has it
-    pub next-with : (x : ℕ) → x ≡ wide → (u0 u1 u2 u3 : List Float) (out'' : List ℕ) (r : Filled)
-        → TileAfter m (k / x) (k % x) done t0' t1' t2' t3' u0 u1 u2 u3 out' out'' r → (n : ℕ) → r ≡ WholeTile n → After-tiles m t0 t1 t2 t3 out (k + 1) n u0 u1 u2 u3 out''
+    pub next-with : (x : ℕ) → x ≡ wide → (u0 u1 u2 u3 : List Float) (out'' : List ℕ) (r : Option ℕ)
+        → TileAfter m (k / x) (k % x) done t0' t1' t2' t3' u0 u1 u2 u3 out' out'' r → (n : ℕ) → r ≡ Some n → After-tiles m t0 t1 t2 t3 out (k + 1) n u0 u1 u2 u3 out''
     next-with x e u0 u1 u2 u3 out'' r a =
         next-tiles u0 u1 u2 u3 out'' r (subst (λ (y : ℕ). TileAfter m (k / y) (k % y) done t0' t1' t2' t3' u0 u1 u2 u3 out' out'' r) e a)
 
-    pub full-with : (x : ℕ) → x ≡ wide → (u0 u1 u2 u3 : List Float) (out'' : List ℕ) (r : Filled)
-        → TileAfter m (k / x) (k % x) done t0' t1' t2' t3' u0 u1 u2 u3 out' out'' r → r ≡ Full → after (answer.Full k) u0 u1 u2 u3 out'' ≡ left_all m t0 t1 t2 t3 out
+    pub full-with : (x : ℕ) → x ≡ wide → (u0 u1 u2 u3 : List Float) (out'' : List ℕ) (r : Option ℕ)
+        → TileAfter m (k / x) (k % x) done t0' t1' t2' t3' u0 u1 u2 u3 out' out'' r → r ≡ None → after (Ok (answer.Full k)) u0 u1 u2 u3 out'' ≡ left_all m t0 t1 t2 t3 out
     full-with x e u0 u1 u2 u3 out'' r a =
         full-tiles u0 u1 u2 u3 out'' r (subst (λ (y : ℕ). TileAfter m (k / y) (k % y) done t0' t1' t2' t3' u0 u1 u2 u3 out' out'' r) e a)
 
   pub all-tiles : (done : ℕ) (t0' t1' t2' t3' : List Float) (out' : List ℕ) → After-tiles m t0 t1 t2 t3 out total done t0' t1' t2' t3' out'
-      → after (answer.Found done) t0' t1' t2' t3' out' ≡ left_all m t0 t1 t2 t3 out
+      → after (Ok (answer.Found done)) t0' t1' t2' t3' out' ≡ left_all m t0 t1 t2 t3 out
   unfolding left_of answer_of copied_of
   all-tiles done t0' t1' t2' t3' out' g =
       let n = whole-all tile_step m (length out) total g.fits in

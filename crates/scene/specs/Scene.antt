@@ -1,9 +1,8 @@
 -- What a scene answers, and what it leaves in the five lent buffers, as one value of its input. Definitions only.
-use Rattle.std.specs.Prelude.{ℕ, zero, suc, ◌/◌, ◌%◌, min, cond, List, length, leb, eqb, Float}
+use Rattle.std.specs.Prelude.{ℕ, zero, suc, ◌/◌, ◌%◌, min, cond, List, length, leb, eqb, Float, Result, Ok, Err, ⊤}
 use Rattle.tables.specs.declared.Set.{Set}
+use Rattle.tables.specs.declared.Refusal.{Refusal}
 use Rattle.tables.specs.declared.Thresholds.{Thresholds}
-use Rattle.tables.specs.declared.Checked.{Checked}
-use Rattle.tables.specs.declared.Checked.TheVariants.{Fine, Bad}
 use Rattle.tables.specs.Refusal.{first_of}
 use Rattle.pixel.specs.declared.Frame.{Frame}
 use Rattle.samples.specs.Level.{Maps, maps_of}
@@ -14,7 +13,7 @@ use Rattle.scene_checks.specs.Checks.{scene_checks}
 use Rattle.turn.specs.Tiled.{tile_copy, tile_list, across, tiles, first_tiles}
 use Rattle.turn.specs.Turn.{front}
 use Rattle.scene.specs.declared.Answer.{Answer}
-use Rattle.scene.specs.declared.Answer.TheVariants.{Found, Full, Refused}
+use Rattle.scene.specs.declared.Answer.TheVariants.{Found, Full}
 
 -- ---- the tiles' bytes and copies
 
@@ -36,7 +35,7 @@ whole_tiles step m room (suc n) = cond (leb (length (bytes_to step m (suc n))) r
 
 -- an answer, and the five buffers after it
 pub record After : Type 0 where
-  pub answer : Answer
+  pub answer : Result Answer Refusal
   pub t0 : List Float
   pub t1 : List Float
   pub t2 : List Float
@@ -44,12 +43,12 @@ pub record After : Type 0 where
   pub out : List ℕ
 
 -- these six, given one by one
-abbrev pub after : Answer → List Float → List Float → List Float → List Float → List ℕ → After
+abbrev pub after : Result Answer Refusal → List Float → List Float → List Float → List Float → List ℕ → After
 after a t0 t1 t2 t3 out = record { answer = a; t0 = t0; t1 = t1; t2 = t2; t3 = t3; out = out }
 
 -- n tiles were written whole: the record count where these are all, else 6 with their number
-unfoldable pub answer_of : ℕ → Maps → ℕ → Answer
-answer_of step m n = cond (eqb n (tiles step m.frame)) (Found (length (first_tiles step m n))) (Full n)
+unfoldable pub answer_of : ℕ → Maps → ℕ → Result Answer Refusal
+answer_of step m n = cond (eqb n (tiles step m.frame)) (Ok (Found (length (first_tiles step m n)))) (Ok (Full n))
 
 -- the copies that were made: one more than the tiles written, where one more is there
 unfoldable pub copied_of : ℕ → Frame → ℕ → ℕ
@@ -64,9 +63,9 @@ left_of step m n t0 t1 t2 t3 out =
     (front (bytes_to step m n) out)
 
 -- a refusal before the first tile leaves all five buffers as they were
-unfoldable pub scene_by : Checked → ℕ → Maps → List Float → List Float → List Float → List Float → List ℕ → After
-scene_by (Bad why) step m t0 t1 t2 t3 out = after (Refused why) t0 t1 t2 t3 out
-scene_by Fine step m t0 t1 t2 t3 out = left_of step m (whole_tiles step m (length out) (tiles step m.frame)) t0 t1 t2 t3 out
+unfoldable pub scene_by : Result ⊤ Refusal → ℕ → Maps → List Float → List Float → List Float → List Float → List ℕ → After
+scene_by (Err why) step m t0 t1 t2 t3 out = after (Err why) t0 t1 t2 t3 out
+scene_by (Ok _) step m t0 t1 t2 t3 out = left_of step m (whole_tiles step m (length out) (tiles step m.frame)) t0 t1 t2 t3 out
 
 -- the whole of a scene
 unfoldable pub scene_of : ℕ → Set → Thresholds → ℕ → ℕ → ℕ → List Float → List Float → List Float → List Float

@@ -7,14 +7,13 @@ ghost use Rattle.std.specs.Prelude.{◌≡◌};
 ghost use Rattle.tiles.specs.Tiles.{tile_step};
 ghost use Rattle.scene.specs.Scene.{after, scene_of};
 
-use tables::{Checked, Refusal, Set, Thresholds};
+use tables::{Refusal, Set, Thresholds};
 
-// What a scene answers: how many records it lists; that the output is full, with the number of whole tiles written; or why it refused.
+// What a scene that is not refused answers: how many records it lists, or that the output is full, with the number of whole tiles written.
 #[derive(Clone, Copy)]
 pub enum Answer {
     Found(usize),
     Full(usize),
-    Refused(Refusal),
 }
 
 // Lists the spots of a scene, given as four levels by columns, in the buffer out. Each tile is copied into the slices t0 to t3.
@@ -33,12 +32,12 @@ pub fn scene<'a>(
     t2: &mut [f32],
     t3: &mut [f32],
     out: &mut [u8],
-) -> Answer
+) -> Result<Answer, Refusal>
     ensures { after result t0.new t1.new t2.new t3.new out.new
         ≡ scene_of tile_step set thresholds rows cols octave l0.now l1.now l2.now l3.now
         t0.old t1.old t2.old t3.old out.old }
 {
-    let check = scene_checks::checked(
+    scene_checks::checked(
         l0.len(),
         l1.len(),
         l2.len(),
@@ -52,11 +51,8 @@ pub fn scene<'a>(
         t1.len(),
         t2.len(),
         t3.len(),
-    );
-    match check {
-        Checked::Bad(why) => Answer::Refused(why),
-        Checked::Fine => run::run(
-            set, thresholds, rows, cols, octave, l0, l1, l2, l3, t0, t1, t2, t3, out,
-        ),
-    }
+    )?;
+    run::run(
+        set, thresholds, rows, cols, octave, l0, l1, l2, l3, t0, t1, t2, t3, out,
+    )
 }

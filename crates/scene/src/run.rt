@@ -5,8 +5,7 @@ ghost use Rattle.turn.specs.Turn.{scene_maps};
 ghost use Rattle.scene.specs.Scene.{after, left_all};
 
 use crate::Answer;
-use tables::{Set, Thresholds};
-use tile::Filled;
+use tables::{Refusal, Set, Thresholds};
 
 // All tiles, row by row, as long as their records have room.
 pub fn run<'a>(
@@ -24,7 +23,7 @@ pub fn run<'a>(
     t2: &mut [f32],
     t3: &mut [f32],
     out: &mut [u8],
-) -> Answer
+) -> Result<Answer, Refusal>
     requires { SceneIn set th rows cols octave (length l0.now) (length l1.now) (length l2.now) (length l3.now)
         (length t0.old) (length t1.old) (length t2.old) (length t3.old) }
     ensures { after result t0.new t1.new t2.new t3.new out.new
@@ -34,8 +33,7 @@ pub fn run<'a>(
     let across = tiles::tiles_of(cols);
     let total = tiles::tiles_of(rows) * across;
     let mut done: usize = 0;
-    let mut k: usize = 0;
-    while k < total {
+    for k in 0..total {
         let told = turn::turn(
             set,
             th,
@@ -55,11 +53,10 @@ pub fn run<'a>(
             out,
             done,
         );
-        let Filled::WholeTile(n) = told else {
-            return Answer::Full(k);
+        let Some(n) = told else {
+            return Ok(Answer::Full(k));
         };
         done = n;
-        k += 1;
     }
-    Answer::Found(done)
+    Ok(Answer::Found(done))
 }

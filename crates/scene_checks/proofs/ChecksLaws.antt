@@ -1,4 +1,5 @@
 -- What a scene is that passed its checks. Assumes nothing.
+use Rattle.std.specs.Prelude.{Ok}
 use Prim.Native.Nat.{ℕ, ◌*◌, ◌≤◌}
 use native.Mathlib.Nat.{mul-le-mul}
 use native.Mathlib.Omega.{arith}
@@ -9,7 +10,6 @@ use borrow.Author.Tests.{ltb-false, eqb-true, not-false}
 use Rattle.float.proofs.Bools.{neither}
 use Rattle.tables.specs.declared.Set.{Set}
 use Rattle.tables.specs.declared.Thresholds.{Thresholds}
-use Rattle.tables.specs.declared.Checked.TheVariants.{Fine}
 use Rattle.tables.specs.Set.{good}
 use Rattle.tables.specs.Refusal.{first_of}
 use Rattle.tables.proofs.RefusalLaws.{unless-fine}
@@ -36,7 +36,7 @@ module _ (n0 n1 n2 n3 rows cols octave : ℕ) (th : Thresholds) (s : Set) (t0 t1
   abbrev need : ℕ
   need = tile_room tile_step rows cols
 
-  pub opens : first_of (scene_checks tile_step n0 n1 n2 n3 rows cols octave th s t0 t1 t2 t3) ≡ Fine → SceneIn s th rows cols octave n0 n1 n2 n3 t0 t1 t2 t3
+  pub opens : first_of (scene_checks tile_step n0 n1 n2 n3 rows cols octave th s t0 t1 t2 t3) ≡ Ok tt → SceneIn s th rows cols octave n0 n1 n2 n3 t0 t1 t2 t3
   unfolding scene_checks first_of
   opens h =
       let sides = unless-fine _ _ _ h in

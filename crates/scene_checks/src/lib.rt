@@ -6,7 +6,7 @@ ghost use Rattle.tables.specs.Refusal.{first_of};
 ghost use Rattle.tiles.specs.Tiles.{tile_step};
 ghost use Rattle.scene_checks.specs.Checks.{scene_check, room_check, scene_checks};
 
-use tables::{Checked, Refusal, Set, Thresholds};
+use tables::{Refusal, Set, Thresholds};
 
 // Whether a side is too long for a scene.
 fn sides_off(rows: usize, cols: usize) -> bool
@@ -38,7 +38,7 @@ pub fn checked(
     t1: usize,
     t2: usize,
     t3: usize,
-) -> Checked
+) -> Result<(), Refusal>
     ensures { result ≡ first_of (scene_checks tile_step n0 n1 n2 n3 rows cols octave thresholds set t0 t1 t2 t3) }
 {
     let short = room_off(rows, cols, t0, t1, t2, t3);
@@ -46,22 +46,22 @@ pub fn checked(
     let lost = tables::has_nan(thresholds);
     let good = tables::is_good(set);
     if sides_off(rows, cols) {
-        return Checked::Bad(Refusal::Scene);
+        return Err(Refusal::Scene);
     }
     if checks::levels_off(n0, n1, n2, n3, rows * cols) {
-        return Checked::Bad(Refusal::Level);
+        return Err(Refusal::Level);
     }
     if high {
-        return Checked::Bad(Refusal::Octave);
+        return Err(Refusal::Octave);
     }
     if lost {
-        return Checked::Bad(Refusal::Thresholds);
+        return Err(Refusal::Thresholds);
     }
     if !good {
-        return Checked::Bad(Refusal::BadSet);
+        return Err(Refusal::BadSet);
     }
     if short {
-        return Checked::Bad(Refusal::Room);
+        return Err(Refusal::Room);
     }
-    Checked::Fine
+    Ok(())
 }

@@ -1,5 +1,6 @@
 -- What the tiles list, told by scene pixels, is what the untiled scene lists, put in another order. Assumes nothing but that the levels have the scene's size, and that its sides
 -- are at most 2^24, up to which a whole number is a value of f32.
+use Rattle.std.specs.Prelude.{Some, None}
 use Prim.Native.Nat.{ℕ, zero, suc, ◌+◌, ◌-◌, ◌*◌, ◌<◌}
 use native.Mathlib.Omega.{arith}
 use mathlib.Core.Path.{◌≡◌, refl, sym, ◌∙◌, subst}
@@ -7,7 +8,6 @@ use mathlib.Core.Bool.{Bool, true, false, cond}
 use mathlib.Core.List.{List, map, map-map, map-append, Permᴰ}
 use lib.Arith.{digits_div, digits_mod}
 use Rattle.record.specs.declared.Record.{Record}
-use Rattle.pixel.specs.declared.Verdict.TheVariants.{Listed, Nothing}
 use Rattle.pixel.specs.Verdict.{record_of}
 use Rattle.sized.specs.Sized.{size_of}
 use Rattle.tiles.specs.Tiles.{tiles_of, start_of, length_of}
@@ -34,14 +34,14 @@ abbrev lists_at : Maps → ℕ → ℕ → Bool → Bool
 lists_at m row col is_max = lists m.set m.thresholds m.frame.octave (nine_at m row col) is_max
 
 judged_form : (m : Maps) → Sides m → (row col : ℕ) (is_max : Bool) → Within 4 m.frame row col
-    → judge_of m row col is_max ≡ cond (lists_at m row col is_max) (Listed (made_of m row col is_max)) Nothing
+    → judge_of m row col is_max ≡ cond (lists_at m row col is_max) (Some (made_of m row col is_max)) None
 unfolding judge_of
 judged_form m s row col is_max inside =
     verdict_form m.set m.thresholds m.frame.octave (nine_at m row col) is_max m.frame.rows m.frame.cols s.rows-most s.cols-most row col inside
 
 -- a sight of what two pixels list, where both list or neither does
 both_seen : (t t' : Record → Sight) (b : Bool) (x y : Record) → t x ≡ t' y
-    → map t (listed (cond b (Listed x) Nothing)) ≡ map t' (listed (cond b (Listed y) Nothing))
+    → map t (listed (cond b (Some x) None)) ≡ map t' (listed (cond b (Some y) None))
 unfolding listed
 both_seen t t' true x y e = rw e
 both_seen t t' false x y e = refl

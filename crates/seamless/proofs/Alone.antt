@@ -1,5 +1,6 @@
 -- A scene's output is its tiles' own outputs one after the other, and each tile's is what the detector and the join give of the tile alone.
 -- Assumes nothing but that the levels have the scene's size.
+use Rattle.std.specs.Prelude.{Ok}
 use Prim.Native.Nat.{ℕ, suc, ◌+◌, ◌*◌, ◌/◌, ◌%◌, ◌≤◌, ◌<◌}
 use native.Mathlib.Omega.{arith}
 use mathlib.Core.Path.{◌≡◌, refl, ap, subst}
@@ -20,7 +21,6 @@ use Rattle.detect.specs.Detect.{Outcome, detect_of}
 use Rattle.sized.specs.Sized.{sized_width, sized_bytes}
 use Rattle.join.specs.Join.{records_from, sized_all, laid_sized, joined, join_by, join_of}
 use Rattle.join.specs.Join as join
-use Rattle.join.specs.declared.Joined.TheVariants.{Count}
 use Rattle.sized.proofs.SizedLaws.{length-sized_bytes}
 use Rattle.demands.specs.List.{StandsAt}
 use Rattle.demands.specs.Joined.{Joins}
@@ -58,7 +58,7 @@ records_are b (r ∷ rs) i h =
     rw (← first, records_are b rs (suc i) (λ k p. let g : i + suc k ≡ suc i + k = omega arith in rw g at (h (suc k) (omega arith))))
 
 joins_give : (s : Set) (h w : ℕ) (rs : List Record) (b o : List ℕ) → Joins h w rs (length rs) b → good s ≡ true → length rs * sized_width ≤ length o
-    → join_of s h w b o ≡ join.outcome (Count (length rs)) (front (sized_all false s rs) o)
+    → join_of s h w b o ≡ join.outcome (Ok (length rs)) (front (sized_all false s rs) o)
 unfolding join_by joined laid_sized
 joins_give s h w rs b o j is-good room =
     rw (j.fine s (length o) is-good room, j.count-is, records_are b rs 0 (λ k p. let e : 0 + k ≡ k = omega arith in rw e (j.as_found k p)))
@@ -68,7 +68,7 @@ module _ (s : Set) (th : Thresholds) (h w octave : ℕ) (l0 l1 l2 l3 : List Floa
   found = found_in s th h w octave l0 l1 l2 l3
 
   alone-joins : (b o : List ℕ) → length found * spot_width ≤ length b → length found * sized_width ≤ length o
-      → join_of s h w (take (length found * spot_width) (laid found b)) o ≡ join.outcome (Count (length found)) (front (sized_all false s found) o)
+      → join_of s h w (take (length found * spot_width) (laid found b)) o ≡ join.outcome (Ok (length found)) (front (sized_all false s found) o)
   alone-joins b o room room' =
       let d = detects s th h w octave l0 l1 l2 l3 p b in
       let n : written found b ≡ length found = omega arith in

@@ -1,4 +1,5 @@
 -- Demand 3 over two calls of a scene. Assumes nothing.
+use Rattle.std.specs.Prelude.{Ok}
 use Prim.Native.Nat.{ℕ}
 use native.Mathlib.Omega.{arith}
 use mathlib.Core.Path.{◌≡◌, ap, ◌∙◌}
@@ -33,8 +34,8 @@ module _ (lost : ℕ → ℕ → Bool) (s : Set) (th : Thresholds) (rows cols oc
 
   -- Of two scenes, the second the first but for lost pixels, both answered a count: the second lists exactly those of the first's records that are spared, in their order,
   -- bit for bit, and nothing else is changed in its output.
-  pub two_calls : (n n' : ℕ) → (scene_of tile_step s th rows cols octave a0 a1 a2 a3 t0 t1 t2 t3 out).answer ≡ Found n
-      → (scene_of tile_step s th rows cols octave b0 b1 b2 b3 u0 u1 u2 u3 out').answer ≡ Found n' → Lossy lost A B
+  pub two_calls : (n n' : ℕ) → (scene_of tile_step s th rows cols octave a0 a1 a2 a3 t0 t1 t2 t3 out).answer ≡ Ok (Found n)
+      → (scene_of tile_step s th rows cols octave b0 b1 b2 b3 u0 u1 u2 u3 out').answer ≡ Ok (Found n') → Lossy lost A B
       → (n' ≡ length kept) × ((scene_of tile_step s th rows cols octave b0 b1 b2 b3 u0 u1 u2 u3 out').out ≡ front (all_bytes s kept) out')
   two_calls n n' h h' lossy =
       let long-a = answered_long s th rows cols octave a0 a1 a2 a3 t0 t1 t2 t3 out n h in

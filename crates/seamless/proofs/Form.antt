@@ -1,5 +1,6 @@
 -- The verdict on a judged pixel, taken apart: whether a record is listed does not turn on the pixel's place or on its map's sides, and of the record only x, y and the key do.
 -- Assumes nothing: a spot that moves by at most 0.6 stays on its map (displaced_on_side).
+use Rattle.std.specs.Prelude.{Option, Some, None}
 use Prim.Native.Nat.{ℕ, ◌+◌, ◌-◌, ◌*◌, ◌≤◌, ◌<◌}
 use native.Mathlib.Omega.{arith}
 use mathlib.Core.Path.{◌≡◌, refl}
@@ -20,13 +21,9 @@ use Rattle.fit.specs.Prims.{ours}
 use Rattle.fit.specs.Band.{band_of}
 use Rattle.refine.specs.Refine.{values_of, edge_of, index_of, spatial_of, denominator_of, steep_of, delta_yOf, delta_xOf, nearby, placed_of, moved_of, refine_by, refine_of}
 use Rattle.refine.specs.declared.Spot.{Spot}
-use Rattle.refine.specs.declared.Refined.{Refined}
-use Rattle.refine.specs.declared.Refined.TheVariants.{Accepted, Rejected}
 use Rattle.record.specs.declared.Record.{Record}
 use Rattle.record.specs.Readable.{finite_record, on_side, readable}
 use Rattle.pixel.specs.declared.Frame.{Frame}
-use Rattle.pixel.specs.declared.Verdict.{Verdict}
-use Rattle.pixel.specs.declared.Verdict.TheVariants.{Listed, Nothing}
 use Rattle.pixel.specs.Gate.{gate_by}
 use Rattle.pixel.specs.Ring.{ring_of}
 use Rattle.pixel.specs.Verdict.{whole_of, anchor_of, record_of, admit_of, verdict_by, verdict_of}
@@ -36,18 +33,18 @@ use Rattle.samples.specs.Level.{Within}
 
 -- ---- tests one after the other
 
-one_test : (a b c d e : Bool) (x y : Refined) → cond a (cond b y (cond c y (cond d (cond e x y) y))) y ≡ cond (a && (not b && (not c && (d && e)))) x y
+one_test : (a b c d e : Bool) (x y : Option Spot) → cond a (cond b y (cond c y (cond d (cond e x y) y))) y ≡ cond (a && (not b && (not c && (d && e)))) x y
 one_test false b c d e x y = refl
 one_test true true c d e x y = refl
 one_test true false true d e x y = refl
 one_test true false false false e x y = refl
 one_test true false false true e x y = refl
 
-none-none : (a b : Bool) (x y : Verdict) → cond a y y ≡ cond (a && (false && b)) x y
+none-none : (a b : Bool) (x y : Option Record) → cond a y y ≡ cond (a && (false && b)) x y
 none-none true b x y = refl
 none-none false b x y = refl
 
-two_tests : (a b : Bool) (x y : Verdict) → cond a (cond b x y) y ≡ cond (a && (true && b)) x y
+two_tests : (a b : Bool) (x y : Option Record) → cond a (cond b x y) y ≡ cond (a && (true && b)) x y
 two_tests true b x y = refl
 two_tests false b x y = refl
 
@@ -107,9 +104,9 @@ module _ (s : Set) (th : Thresholds) (octave : ℕ) (nine : List (List Float)) (
   }
 
   refined : (row col : ℕ) → refine_of s th.ratio (cubics_at s nine) (anchor_of row col (own_sigma s nine is_max) (own_peak s nine is_max) octave is_max)
-      ≡ cond accepts (Accepted (spot_at row col)) Rejected
+      ≡ cond accepts (Some (spot_at row col)) None
   unfolding refine_by moved_of placed_of anchor_of
-  refined row col = one_test edge flat level steep (nearby left_right && nearby up_down) (Accepted (spot_at row col)) Rejected
+  refined row col = one_test edge flat level steep (nearby left_right && nearby up_down) (Some (spot_at row col)) None
 
   -- its record, with the key given
   abbrev pub made_at : ℕ → ℕ → ℕ → Record
@@ -140,18 +137,18 @@ module _ (s : Set) (th : Thresholds) (octave : ℕ) (nine : List (List Float)) (
     frame = record { rows = rows; cols = cols; octave = octave }
 
     admitted : (b : Bool) → accepts ≡ b → (a : Bool)
-        → cond a (admit_of frame (own_samples nine) (row * cols + col) (cond b (Accepted (spot_at row col)) Rejected)) Nothing
-        ≡ cond (a && (b && otherwise (made_at 0 0 0))) (Listed (made_at row col (row * cols + col))) Nothing
+        → cond a (admit_of frame (own_samples nine) (row * cols + col) (cond b (Some (spot_at row col)) None)) None
+        ≡ cond (a && (b && otherwise (made_at 0 0 0))) (Some (made_at row col (row * cols + col))) None
     unfolding admit_of record_of
-    admitted false e a = none-none a (otherwise (made_at 0 0 0)) (Listed (made_at row col (row * cols + col))) Nothing
+    admitted false e a = none-none a (otherwise (made_at 0 0 0)) (Some (made_at row col (row * cols + col))) None
     admitted true e a =
         let near = pass e in
         let x = displaced_on_side cols col left_right (omega arith) (omega arith) cols-most near.0 in
         let y = displaced_on_side rows row up_down (omega arith) (omega arith) rows-most near.1 in
         let on = readable-on rows cols (made_at row col (row * cols + col)) x.0 y.0 x.1 y.1 (digits_lt (omega arith) (omega arith)) in
-        rw on (two_tests a (otherwise (made_at 0 0 0)) (Listed (made_at row col (row * cols + col))) Nothing)
+        rw on (two_tests a (otherwise (made_at 0 0 0)) (Some (made_at row col (row * cols + col))) None)
 
     -- The verdict on a judged pixel.
-    pub verdict_form : verdict_of s th frame nine row col is_max ≡ cond lists (Listed (made_at row col (row * cols + col))) Nothing
+    pub verdict_form : verdict_of s th frame nine row col is_max ≡ cond lists (Some (made_at row col (row * cols + col))) None
     unfolding verdict_by
     verdict_form = rw (refined row col) (admitted accepts refl standing)

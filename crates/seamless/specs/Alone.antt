@@ -1,16 +1,14 @@
 -- A tile by itself, and calls of a scene. Definitions only.
-use Rattle.std.specs.Prelude.{ℕ, zero, suc, ◌+◌, ◌*◌, ◌≤◌, ◌<◌, ◌≡◌, false, List, [], ◌++◌, length, take, drop, Float}
+use Rattle.std.specs.Prelude.{ℕ, zero, suc, ◌+◌, ◌*◌, ◌≤◌, ◌<◌, ◌≡◌, false, List, [], ◌++◌, length, take, drop, Float, Ok}
 use Rattle.tables.specs.declared.Set.{Set}
 use Rattle.tables.specs.declared.Thresholds.{Thresholds}
 use Rattle.record.specs.declared.Record.{Record}
 use Rattle.record.specs.Layout.{spot_width, laid}
 use Rattle.samples.specs.Level.{Maps, Within}
 use Rattle.detect.specs.Detect as detect
-use Rattle.detect.specs.declared.Answer.TheVariants as detected
 use Rattle.words.specs.Words.{half_bytes}
 use Rattle.sized.specs.Sized.{sized_width}
 use Rattle.join.specs.Join as join
-use Rattle.join.specs.declared.Joined.TheVariants.{Count}
 use Rattle.pixel.specs.declared.Frame.{Frame}
 use Rattle.tiles.specs.Tiles.{tile_step, tiles_of, start_of}
 use Rattle.tile.specs.Numbered.{all_bytes}
@@ -39,9 +37,9 @@ with_numbers i j (suc n) b = (half_bytes i ++ (half_bytes j ++ take sized_width 
 
 -- detection of four levels of h by w lists rs, and the join of that list gives its sized records, whatever buffers are lent that have room
 pub record Alone (s : Set) (th : Thresholds) (h w octave : ℕ) (l0 l1 l2 l3 : List Float) (rs : List Record) : Type 0 where
-  pub detects : (b : List ℕ) → detect.detect_of s th h w octave l0 l1 l2 l3 b ≡ detect.outcome (detected.Found (length rs)) (laid rs b)
+  pub detects : (b : List ℕ) → detect.detect_of s th h w octave l0 l1 l2 l3 b ≡ detect.outcome (Ok (length rs)) (laid rs b)
   pub joins : (b o : List ℕ) → length rs * spot_width ≤ length b → length rs * sized_width ≤ length o
-      → join.join_of s h w (take (length rs * spot_width) (laid rs b)) o ≡ join.outcome (Count (length rs)) (front (join.sized_all false s rs) o)
+      → join.join_of s h w (take (length rs * spot_width) (laid rs b)) o ≡ join.outcome (Ok (length rs)) (front (join.sized_all false s rs) o)
 
 -- ---- calls
 

@@ -1,15 +1,15 @@
 -- What is listed of a scene as one map, whatever its sides, and what its tiles list, both told by scene pixels. Definitions only.
-use Rattle.std.specs.Prelude.{ℕ, ◌+◌, ◌/◌, ◌%◌, List, map, Float}
+use Rattle.std.specs.Prelude.{ℕ, ◌+◌, ◌/◌, ◌%◌, List, map, Float, Result}
 use Rattle.tables.specs.declared.Set.{Set}
 use Rattle.record.specs.declared.Record.{Record}
 use Rattle.pixel.specs.declared.Frame.{Frame}
-use Rattle.size.specs.declared.Corrected.{Corrected}
 use Rattle.sized.specs.Sized.{size_of}
 use Rattle.samples.specs.Level.{Maps}
 use Rattle.detect.specs.Due.{due}
 use Rattle.tiles.specs.Tiles.{start_of, length_of}
 use Rattle.tile.specs.Numbered.{Numbered}
 use Rattle.turn.specs.Tiled.{scene_list}
+use Rattle.tables.specs.declared.Missing.{Missing}
 
 -- a spot by its scene pixel: what a tile and the untiled scene tell alike. x, y, the order key and the home pixel are not here: they are a tile's own
 pub record Sight : Type 0 where
@@ -27,7 +27,7 @@ pub record Sight : Type 0 where
   pub dx : Float
   pub dy : Float
   -- the corrected sigma, or why there is none
-  pub size : Corrected
+  pub size : Result Float Missing
 
 -- what a record tells, found at the scene pixel (row, col)
 unfoldable pub sight_of : Set → ℕ → ℕ → Record → Sight

@@ -1,4 +1,5 @@
 -- The refinement accepts where the edge and all tests of the displacement pass. Assumes nothing.
+use Rattle.std.specs.Prelude.{Some, None}
 use mathlib.Core.Path.{◌≡◌, refl}
 use mathlib.Core.Bool.{Bool, true, false, cond, not, ◌&&◌}
 use mathlib.Core.List.{List}
@@ -9,11 +10,10 @@ use Rattle.tables.specs.declared.Set.{Set}
 use Rattle.fit.specs.Cubic.{◌at◌}
 use Rattle.refine.specs.Refine.{values_of, edge_of, index_of, spatial_of, denominator_of, steep_of, delta_yOf, delta_xOf, nearby, placed_of, moved_of, refine_by, refine_of}
 use Rattle.refine.specs.declared.Spot.{Spot}
-use Rattle.refine.specs.declared.Refined.TheVariants.{Accepted, Rejected}
 use Rattle.rivals.specs.Ends.{spot_of, accepted_of}
 use Rattle.sides.specs.Beside.{places_of}
 
-by_tests : (e t u v n : Bool) (x : Spot) → accepted_of (cond e (cond t Rejected (cond u Rejected (cond v (cond n (Accepted x) Rejected) Rejected))) Rejected) ≡ (e && (not t && (not u && (v && n))))
+by_tests : (e t u v n : Bool) (x : Spot) → accepted_of (cond e (cond t None (cond u None (cond v (cond n (Some x) None) None))) None) ≡ (e && (not t && (not u && (v && n))))
 unfolding accepted_of
 by_tests false t u v n x = refl
 by_tests true true u v n x = refl

@@ -1,4 +1,5 @@
 -- What is left of a column: from its words, its packed codes, those thinned by its own lines and by the cubics beside them, and those that raised a pixel. Assumes nothing.
+use Rattle.std.specs.Prelude.{None}
 use Prim.Native.Nat.{ℕ, ◌+◌, ◌%◌, ◌≤◌, ◌<◌}
 use native.Mathlib.Omega.{arith}
 use mathlib.Core.Path.{◌≡◌, sym, ap, ◌∙◌, subst}
@@ -12,7 +13,6 @@ use Rattle.tables.specs.declared.Set.{Set}
 use Rattle.tables.specs.declared.Thresholds.{Thresholds}
 use Rattle.pixel.specs.Verdict.{verdict_of}
 use Rattle.pixel.specs.declared.Frame.{Frame}
-use Rattle.pixel.specs.declared.Verdict.TheVariants.{Nothing}
 use Rattle.columns.specs.Line.{Written}
 use Rattle.columns.specs.Stat.{cubic_in}
 use Rattle.rivals.specs.List.{Among, Packed, Thinned, Raised}
@@ -92,20 +92,20 @@ module _ (s : Set) (th : Thresholds) (l : ℕ → ℕ → List Float) (n : ℕ) 
 
       -- one list after the other
       module _ (bit : bit_of (get_or w (i + 1) 0) is_max ≡ 1) where
-        last : Among codes₁ k (code_of i is_max) → (get_or keep₂ (code_of i is_max % 780) 0 ≡ 1) ⊎ (taken_of s th.ratio (code_of i is_max) a' b' c' d' p ≡ false) → verdict_of s th f (nine_beside l i) row col is_max ≡ Nothing
+        last : Among codes₁ k (code_of i is_max) → (get_or keep₂ (code_of i is_max % 780) 0 ≡ 1) ⊎ (taken_of s th.ratio (code_of i is_max) a' b' c' d' p ≡ false) → verdict_of s th f (nine_beside l i) row col is_max ≡ None
         last q (inl up) = absurd (zero_not-one (get_or keep₂ i 0) zero (subst (λ (j : ℕ). get_or keep₂ j 0 ≡ 1) row_is up))
         last q (inr t) = side_rules s th f l row col n i a' b' c' d' p v w short inside stands is_max small (refused bit (left q) (right q) t)
 
-        second : Among codes₁ k (code_of i is_max) → Among codes₂ o (code_of i is_max) ⊎ (beside_of s.sigmas (code_of i is_max) a' b' c' d' p v ≡ true) → verdict_of s th f (nine_beside l i) row col is_max ≡ Nothing
+        second : Among codes₁ k (code_of i is_max) → Among codes₂ o (code_of i is_max) ⊎ (beside_of s.sigmas (code_of i is_max) a' b' c' d' p v ≡ true) → verdict_of s th f (nine_beside l i) row col is_max ≡ None
         second q (inl r) = last q (raised_code raised r)
         second q (inr t) = side_rules s th f l row col n i a' b' c' d' p v w short inside stands is_max small (beside bit (left q) (right q) t)
 
-        first : Among codes₁ k (code_of i is_max) ⊎ (upright_of s.sigmas (code_of i is_max) a b c d p v ≡ true) → verdict_of s th f (nine_beside l i) row col is_max ≡ Nothing
+        first : Among codes₁ k (code_of i is_max) ⊎ (upright_of s.sigmas (code_of i is_max) a b c d p v ≡ true) → verdict_of s th f (nine_beside l i) row col is_max ≡ None
         first (inl q) = second q (thinned_code thinner q)
         first (inr t) = side_rules s th f l row col n i a b c d p v w short inside slot is_max small (upright bit t)
 
       -- it lists nothing
-      nothing : (bit_of (get_or w (i + 1) 0) is_max ≡ 0) ⊎ (bit_of (get_or w (i + 1) 0) is_max ≡ 1) → verdict_of s th f (nine_beside l i) row col is_max ≡ Nothing
+      nothing : (bit_of (get_or w (i + 1) 0) is_max ≡ 0) ⊎ (bit_of (get_or w (i + 1) 0) is_max ≡ 1) → verdict_of s th f (nine_beside l i) row col is_max ≡ None
       nothing (inl none) = side_rules s th f l row col n i a b c d p v w short inside slot is_max small (unmarked none)
       nothing (inr bit) = first bit (thinned_code thinned (packed_among packed i inside is_max (subst (λ (m : ℕ). bit_of (get_or w m 0) is_max ≡ 1) (sym (place i)) bit)))
 

@@ -1,4 +1,5 @@
 -- What a column's own lines and the cubics beside it rule out lists nothing. Assumes nothing.
+use Rattle.std.specs.Prelude.{None}
 use Prim.Native.Nat.{ℕ, zero, suc, ◌+◌, ◌/◌, ◌%◌, ◌≤◌, ◌<◌}
 use native.Mathlib.Nat.{zero-add}
 use native.Mathlib.Omega.{arith}
@@ -15,7 +16,6 @@ use Rattle.fit.specs.Band.{sign_of, band_of}
 use Rattle.pixel.specs.Verdict.{verdict_of}
 use Rattle.pixel.specs.Rules.{cubics_at, own_samples}
 use Rattle.pixel.specs.declared.Frame.{Frame}
-use Rattle.pixel.specs.declared.Verdict.TheVariants.{Nothing}
 use Rattle.columns.specs.Stat.{cubic_in}
 use Rattle.rivals.specs.Near.{reaches_at}
 use Rattle.rivals.specs.Ends.{ends_at, nine_in}
@@ -89,17 +89,17 @@ module _ (s : Set) (th : Thresholds) (f : Frame) (l : ℕ → ℕ → List Float
     e = code_of i is_max
 
     point_at : (j idx : ℕ) → j < 9 → j % 3 ≡ 1 → eqb j 4 ≡ false → idx ≡ cond is_max (780 + (i + j / 3)) (i + j / 3) →
-        reaches_at (band_of s.sigmas (p at (e + 1))) (v at (e + 1)) p v idx ≡ true → verdict_of s th f nine row col is_max ≡ Nothing
+        reaches_at (band_of s.sigmas (p at (e + 1))) (v at (e + 1)) p v idx ≡ true → verdict_of s th f nine row col is_max ≡ None
     point_at j idx h up other =
         rule_point s th f nine row col (i + 1) a b c d p v w long own is_max small set (e + 1) (code_at is_max i 1) j (i + j / 3) idx h other (upright_ready j h up)
 
     end_at : (j m : ℕ) → j < 9 → eqb j 4 ≡ false → cubic_in a b c d m ≡ coeffs_of s.scale (l (j % 3) (i + j / 3)) →
-        ends_at a b c d (sign_of is_max) (v at (e + 1)) (band_of s.sigmas (p at (e + 1))) m ≡ true → verdict_of s th f nine row col is_max ≡ Nothing
+        ends_at a b c d (sign_of is_max) (v at (e + 1)) (band_of s.sigmas (p at (e + 1))) m ≡ true → verdict_of s th f nine row col is_max ≡ None
     end_at j m h other is =
         rule_end s th f nine row col (i + 1) a b c d p v w long own is_max small set (e + 1) (code_at is_max i 1) j (cubic_in a b c d m) h other (is ∙ ap (coeffs_of s.scale) (sym (nine_place l i j h)))
 
     -- one of those above and below it
-    upright_rules : upright_of s.sigmas e a b c d p v ≡ true → verdict_of s th f nine row col is_max ≡ Nothing
+    upright_rules : upright_of s.sigmas e a b c d p v ≡ true → verdict_of s th f nine row col is_max ≡ None
     unfolding upright_of
     upright_rules t =
         either_of _ _ (rw (code_row is_max i narrow, code_high is_max i narrow) at t)
@@ -111,7 +111,7 @@ module _ (s : Set) (th : Thresholds) (f : Frame) (l : ℕ → ℕ → List Float
 
     module _ (before : CubicsAt s (l 0) 260 i a b c d) (after : CubicsAt s (l 2) 520 i a b c d) where
       -- one of the six beside it
-      beside_rules : beside_of s.sigmas e a b c d p v ≡ true → verdict_of s th f nine row col is_max ≡ Nothing
+      beside_rules : beside_of s.sigmas e a b c d p v ≡ true → verdict_of s th f nine row col is_max ≡ None
       unfolding beside_of
       beside_rules t =
           either_of _ _ (rw (code_row is_max i narrow, code_high is_max i narrow) at t)
@@ -143,13 +143,13 @@ module _ (s : Set) (th : Thresholds) (f : Frame) (l : ℕ → ℕ → List Float
       cubics = cubics_in s nine 260 0 520 i a b c d long (λ j h. cubic_at_lem (j / 3) (j % 3) (omega arith) (omega arith) ∙ ap (coeffs_of s.scale) (sym (nine_place l i j h)))
 
       -- the refinement
-      refused-rules : taken_of s th.ratio e a b c d p ≡ false → verdict_of s th f nine row col is_max ≡ Nothing
+      refused-rules : taken_of s th.ratio e a b c d p ≡ false → verdict_of s th f nine row col is_max ≡ None
       unfolding taken_of
       refused-rules t =
           rule_refused s th f nine row col (i + 1) a b c d p v w long own is_max small set (e + 1) (code_at is_max i 1) (nine_in 260 0 520 i a b c d) cubics (rw (code_row is_max i narrow, code_high is_max i narrow) at t)
 
   -- a pixel that is ruled out at a polarity lists nothing there
-  pub side_rules : (is_max : Bool) → get_or w (i + 1) 0 < 4 → Aside s th.ratio l a b c d p v w i is_max → verdict_of s th f nine row col is_max ≡ Nothing
+  pub side_rules : (is_max : Bool) → get_or w (i + 1) 0 < 4 → Aside s th.ratio l a b c d p v w i is_max → verdict_of s th f nine row col is_max ≡ None
   side_rules is_max small (unmarked h) = unmarked-rules s th f nine row col (i + 1) a b c d p v w long own is_max small h
   side_rules is_max small (upright h t) = upright_rules is_max small h t
   side_rules is_max small (beside h before after t) = beside_rules is_max small h before after t

@@ -1,6 +1,6 @@
 -- Candidates of a column that are ruled out by the column itself and by the cubics beside them. Its lines stand in the slot at 0, the cubics of the column before
 -- it in that at 260, of the one after it in that at 520. Nothing here stands in a promise of an entry. Definitions only.
-use Rattle.std.specs.Prelude.{ℕ, ◌+◌, ◌%◌, ◌≤◌, ◌<◌, ◌≡◌, Bool, not, ◌&&◌, ◌||◌, List, leb, length, get_or, Float}
+use Rattle.std.specs.Prelude.{ℕ, ◌+◌, ◌%◌, ◌≤◌, ◌<◌, ◌≡◌, Bool, not, ◌&&◌, ◌||◌, List, leb, length, get_or, Float, None}
 use Rattle.std.specs.Float.Ieee.{lt}
 use Rattle.float.specs.Small.{abs_of}
 use Rattle.float.specs.Num.{f1e_10}
@@ -11,7 +11,6 @@ use Rattle.fit.specs.Band.{sign_of, band_of}
 use Rattle.refine.specs.Refine.{denominator_of, steep_of, delta_yOf, delta_xOf, nearby, refine_of}
 use Rattle.pixel.specs.Verdict.{verdict_of}
 use Rattle.pixel.specs.declared.Frame.{Frame}
-use Rattle.pixel.specs.declared.Verdict.TheVariants.{Nothing}
 use Rattle.columns.specs.Stat.{cubic_in}
 use Rattle.rivals.specs.Near.{reaches_at}
 use Rattle.rivals.specs.Ends.{ends_at, nine_in, spot_of, accepted_of}
@@ -50,6 +49,6 @@ CubicsAt s l z h a b c d = (q : ℕ) → q < 3 → cubic_in a b c d (z + h + q) 
 
 -- a 0 means that the pixel lists nothing, whatever map and place it is of; nothing but 0 and 1 is kept
 pub record Left (s : Set) (th : Thresholds) (l : ℕ → ℕ → List Float) (n : ℕ) (keep : List ℕ) : Type 0 where
-  pub ruled : (i : ℕ) → i < n → get_or keep i 0 ≡ 0 → (f : Frame) (row col : ℕ) (is_max : Bool) → verdict_of s th f (nine_beside l i) row col is_max ≡ Nothing
+  pub ruled : (i : ℕ) → i < n → get_or keep i 0 ≡ 0 → (f : Frame) (row col : ℕ) (is_max : Bool) → verdict_of s th f (nine_beside l i) row col is_max ≡ None
   pub bits : (i : ℕ) → i < 256 → get_or keep i 0 ≤ 1
   pub long : length keep ≡ 256

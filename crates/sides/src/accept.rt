@@ -5,7 +5,8 @@ ghost use Rattle.refine.specs.Refine.{refine_of};
 ghost use Rattle.rivals.specs.Ends.{spot_of, accepted_of};
 ghost use Rattle.sides.specs.Beside.{places_of, taken_of};
 
-use rivals::ends::{nine_cubics, raised};
+use rivals::ends::nine_cubics;
+use rivals::list::raise_codes;
 use spatial::{edge, place};
 use tables::Set;
 
@@ -65,15 +66,11 @@ pub fn accept_list(
     keep: &mut [u8; 256],
 )
     requires k_bound { k ≤ 512 }
-    requires keep_len { (length keep.old ≡ 256) × Coded codes.now k }
+    requires coded { Coded codes.now k }
     ensures { Raised (λ e. taken_of set ratio e a.now b.now c.now d.now p.now ≡ false)
         codes.now k keep.old keep.new }
 {
-    let mut j: usize = 0;
-    while j < k {
-        let e = codes[j] as usize;
-        let taken = is_accepted(set, ratio, e, a, b, c, d, p);
-        keep[e % 780] = raised(keep[e % 780], taken);
-        j += 1;
-    }
+    raise_codes(&codes[..k], keep, |e| {
+        is_accepted(set, ratio, e, a, b, c, d, p)
+    });
 }

@@ -4,7 +4,7 @@ ghost use Rattle.rivals.specs.List.{Coded, Thinned};
 ghost use Rattle.sides.specs.Beside.{upright_of};
 
 use fit::scale_fit::{neighbor_scale_band, sign_of};
-use rivals::near::one_if_not;
+use rivals::list::thin_codes;
 
 // The candidate e is reached by a neighbour's point or at an end of its band.
 fn is_reached(
@@ -26,7 +26,7 @@ fn is_reached(
         | rivals::ends::is_either(a, b, c, d, e % 780, sign_of(780 <= e), val, band)
 }
 
-// The candidates that neither reaches, packed again without a branch; answers how many.
+// The candidates that neither reaches; answers how many.
 pub fn own_list(
     sigmas: [f32; 4],
     k: usize,
@@ -39,17 +39,11 @@ pub fn own_list(
     codes: &mut [u32; 512],
 ) -> usize
     requires k_bound { k ≤ 512 }
-    requires codes_len { (length codes.old ≡ 512) × Coded codes.old k }
+    requires coded { Coded codes.old k }
     ensures { Thinned (λ e. upright_of sigmas e a.now b.now c.now d.now p.now v.now ≡ true)
         codes.old k codes.new result }
 {
-    let mut m: usize = 0;
-    let mut j: usize = 0;
-    while j < k {
-        let e = codes[j];
-        codes[m] = e;
-        m += one_if_not(is_reached(sigmas, e as usize, a, b, c, d, p, v));
-        j += 1;
-    }
-    m
+    thin_codes(&mut codes[..k], move |e| {
+        is_reached(sigmas, e, a, b, c, d, p, v)
+    })
 }

@@ -5,7 +5,7 @@ ghost use Rattle.sides.specs.Beside.{beside_of};
 
 use fit::scale_fit::{neighbor_scale_band, sign_of};
 use rivals::ends::is_three;
-use rivals::near::one_if_not;
+use rivals::list::thin_codes;
 
 // One of the six reaches the candidate e.
 fn is_beside(
@@ -28,7 +28,7 @@ fn is_beside(
     is_three(a, b, c, d, 260 + h, sign, val, band) | is_three(a, b, c, d, 520 + h, sign, val, band)
 }
 
-// The candidates that none reaches, packed again without a branch; answers how many.
+// The candidates that none reaches; answers how many.
 pub fn side_list(
     sigmas: [f32; 4],
     k: usize,
@@ -41,17 +41,11 @@ pub fn side_list(
     codes: &mut [u32; 512],
 ) -> usize
     requires k_bound { k ≤ 512 }
-    requires codes_len { (length codes.old ≡ 512) × Coded codes.old k }
+    requires coded { Coded codes.old k }
     ensures { Thinned (λ e. beside_of sigmas e a.now b.now c.now d.now p.now v.now ≡ true)
         codes.old k codes.new result }
 {
-    let mut m: usize = 0;
-    let mut j: usize = 0;
-    while j < k {
-        let e = codes[j];
-        codes[m] = e;
-        m += one_if_not(is_beside(sigmas, e as usize, a, b, c, d, p, v));
-        j += 1;
-    }
-    m
+    thin_codes(&mut codes[..k], move |e| {
+        is_beside(sigmas, e, a, b, c, d, p, v)
+    })
 }

@@ -1,4 +1,5 @@
 -- No size has moved by the causes: less its cause, each answer is what it was, bit for bit. Assumes nothing.
+use Rattle.std.specs.Prelude.{Option, Some, None, Result, Ok, Err}
 use mathlib.Core.Path.{◌≡◌, refl}
 use mathlib.Core.List.{List}
 use mathlib.Core.Bool.{Bool, true, false, cond}
@@ -12,33 +13,28 @@ use Rattle.fit.specs.Prims.{Prims}
 use Rattle.profile.specs.Profile.{usable_energy, ratio_of, fitted_of, scaled_by, statistic_by}
 use Rattle.profile.specs.declared.Absence.{Absence}
 use Rattle.profile.specs.declared.Absence.TheVariants.{Energy}
-use Rattle.profile.specs.declared.Statistic.{Statistic}
-use Rattle.profile.specs.declared.Statistic.TheVariants.{Value, Absent}
 use Rattle.size.specs.Correct.{beta_of, blend_beta_by, bounded_of, model_move_of, sigma_at, chosen_of, in_range, moved_of, corrected_by}
 use Rattle.size.specs.Before as before
-use Rattle.size.specs.Before.{Option, some, none}
 use Rattle.size.specs.declared.Geometry.{Geometry}
-use Rattle.size.specs.declared.Corrected.{Corrected}
-use Rattle.size.specs.declared.Corrected.TheVariants.{Sigma, NoSize}
 
 -- a statistic less its cause
-plain : Statistic → Option
-plain (Value x) = some x
-plain (Absent why) = none
+plain : Result Float Absence → Option Float
+plain (Ok x) = Some x
+plain (Err why) = None
 
-plain_cond : (b : Bool) (x : Statistic) (why : Absence) → plain (cond b x (Absent why)) ≡ cond b (plain x) none
+plain_cond : (b : Bool) (x : Result Float Absence) (why : Absence) → plain (cond b x (Err why)) ≡ cond b (plain x) None
 unfolding plain
 plain_cond true x why = refl
 plain_cond false x why = refl
 
-less-cond : (b : Bool) (x : Corrected) (why : Missing) → before.less (cond b x (NoSize why)) ≡ cond b (before.less x) none
+less-cond : (b : Bool) (x : Result Float Missing) (why : Missing) → before.less (cond b x (Err why)) ≡ cond b (before.less x) None
 unfolding before.less
 less-cond true x why = refl
 less-cond false x why = refl
 
 ratio-same : (residual whole : Float) → plain (ratio_of residual whole) ≡ before.ratio residual whole
 unfolding ratio_of before.ratio plain
-ratio-same residual whole = plain_cond (usable_energy residual whole) (Value (residual ⊘ whole)) Energy
+ratio-same residual whole = plain_cond (usable_energy residual whole) (Ok (residual ⊘ whole)) Energy
 
 fitted-same : (x z : List Float) → plain (fitted_of x z) ≡ before.fitted x z
 unfolding fitted_of before.fitted
@@ -52,10 +48,10 @@ statistic-same : (p : Prims) (sigmas l : List Float) → plain (statistic_by p s
 unfolding statistic_by before.statistic
 statistic-same p sigmas l = simp (plain_cond, scaled-same)
 
-beta-same : (g : Geometry) (x : Statistic) → beta_of g x ≡ before.beta g (plain x)
+beta-same : (g : Geometry) (x : Result Float Absence) → beta_of g x ≡ before.beta g (plain x)
 unfolding beta_of before.beta plain
-beta-same g (Value x) = refl
-beta-same g (Absent why) = refl
+beta-same g (Ok x) = refl
+beta-same g (Err why) = refl
 
 moved_same : (g : Geometry) (k : List Float) (part t derivative curvature : Float) (is_max : Bool)
     → before.less (moved_of g k part t derivative curvature is_max) ≡ before.moved g k part t derivative curvature is_max
@@ -63,7 +59,7 @@ unfolding moved_of before.moved before.less
 moved_same g k part t derivative curvature is_max =
     let move = bounded_of g part (neg derivative ⊘ curvature) in
     let sigma = sigma_at g (t ⊕ move) in
-    less-cond (in_range g move (t ⊕ move) sigma) (Sigma (chosen_of g k t move (model_move_of g part (k at 0) derivative curvature move) sigma is_max)) Range
+    less-cond (in_range g move (t ⊕ move) sigma) (Ok (chosen_of g k t move (model_move_of g part (k at 0) derivative curvature move) sigma is_max)) Range
 
 -- less its cause, each answer is what it was before
 pub sizes_as_before : (p : Prims) (s : Set) (l : List Float) (anchor : Float) (is_max : Bool) → before.less (corrected_by p s l anchor is_max) ≡ before.corrected p s l anchor is_max

@@ -1,5 +1,5 @@
 -- The words of the claims about the correction. Definitions only.
-use Rattle.std.specs.Prelude.{ℕ, ◌≡◌, List, [], ◌∷◌, Bool, true, Float}
+use Rattle.std.specs.Prelude.{ℕ, ◌≡◌, List, [], ◌∷◌, Bool, true, Float, Result, Err}
 use Rattle.std.specs.Float.Ieee.{le, neg}
 use Rattle.float.specs.Small.{finite}
 use Rattle.float.specs.Num.{◌⊕◌, ◌⊘◌}
@@ -11,8 +11,6 @@ use Rattle.fit.specs.Prims.{Prims}
 use Rattle.profile.specs.Tests.{Test, ◌else◌}
 use Rattle.size.specs.Correct.{geometry_of, blend_beta_by, bounded_of, model_move_of, derivative_of, place_of, sigma_at, chosen_of, trusted, in_range}
 use Rattle.size.specs.declared.Geometry.{Geometry}
-use Rattle.size.specs.declared.Corrected.{Corrected}
-use Rattle.size.specs.declared.Corrected.TheVariants.{NoSize}
 
 -- a sigma is finite and lies in the accepted closed window
 pub record InWindow (g : Geometry) (sigma : Float) : Type 0 where
@@ -46,8 +44,8 @@ range_test p s l anchor =
     in_range g (move_by p s l anchor) end (sigma_at g end)
 
 -- the two, in the Rust's order, each with its cause
-unfoldable pub tests_by : Prims → Set → List Float → Float → Bool → List (Test Corrected)
-tests_by p s l anchor is_max = (trusted_test s l anchor is_max else NoSize Polarity) ∷ (range_test p s l anchor else NoSize Range) ∷ []
+unfoldable pub tests_by : Prims → Set → List Float → Float → Bool → List (Test (Result Float Missing))
+tests_by p s l anchor is_max = (trusted_test s l anchor is_max else Err Polarity) ∷ (range_test p s l anchor else Err Range) ∷ []
 
 -- what the corrected sigma is where both pass
 unfoldable pub sigma_by : Prims → Set → List Float → Float → Bool → Float

@@ -1,6 +1,6 @@
 -- The correction of a spot's sigma. Definitions only.
 -- A size is missing for one of two causes, asked in this order: the place where the spot stands is not trusted, or the move leads out of range. The first that applies is given.
-use Rattle.std.specs.Prelude.{List, Bool, cond, not, ◌&&◌, ◌||◌, Float}
+use Rattle.std.specs.Prelude.{List, Bool, cond, not, ◌&&◌, ◌||◌, Float, Result, Ok, Err}
 use Rattle.std.specs.Float.{binary32}
 use Rattle.std.specs.Float.Ieee.{of_bits, lt, le, eq, ne, neg}
 use Rattle.float.specs.Small.{finite, abs_of, clamp_of}
@@ -9,19 +9,16 @@ use Rattle.logexp.specs.Log.{log2_of}
 use Rattle.logexp.specs.Exp.{exp_of}
 use Rattle.float.specs.Num.{◌⊕◌, ◌⊖◌, ◌⊗◌, ◌⊘◌, f0, f1, f2}
 use Rattle.tables.specs.Set.{good}
+use Rattle.tables.specs.declared.Refusal.{Refusal}
 use Rattle.tables.specs.declared.Set.{Set}
 use Rattle.tables.specs.declared.Missing.TheVariants.{Polarity, Range}
 use Rattle.tables.specs.declared.Refusal.TheVariants as refusal
 use Rattle.fit.specs.Cubic.{◌at◌, coeffs_of, curvature_of}
 use Rattle.fit.specs.Prims.{Prims, ours}
 use Rattle.profile.specs.Profile.{statistic_by}
-use Rattle.profile.specs.declared.Statistic.{Statistic}
-use Rattle.profile.specs.declared.Statistic.TheVariants.{Value, Absent}
 use Rattle.size.specs.declared.Geometry.{Geometry}
-use Rattle.size.specs.declared.Corrected.{Corrected}
-use Rattle.size.specs.declared.Corrected.TheVariants.{Sigma, NoSize}
-use Rattle.size.specs.declared.Correction.{Correction}
-use Rattle.size.specs.declared.Correction.TheVariants.{Size, Refused}
+use Rattle.profile.specs.declared.Absence.{Absence}
+use Rattle.tables.specs.declared.Missing.{Missing}
 
 -- 0.5
 abbrev pub f½ : Float
@@ -76,9 +73,9 @@ blend_of g statistic =
     (g.boost ⊖ (g.boost ⊖ g.beta) ⊗ ((statistic ⊖ g.lower) ⊘ (g.upper ⊖ g.lower)))))
 
 -- the same, beta where the statistic is absent
-unfoldable pub beta_of : Geometry → Statistic → Float
-beta_of g (Value statistic) = blend_of g statistic
-beta_of g (Absent why) = g.beta
+unfoldable pub beta_of : Geometry → Result Float Absence → Float
+beta_of g (Ok statistic) = blend_of g statistic
+beta_of g (Err why) = g.beta
 
 -- the part of a step that the samples l allow
 unfoldable pub blend_beta_by : Prims → Geometry → List Float → List Float → Float
@@ -185,17 +182,17 @@ unfoldable pub in_range : Geometry → Float → Float → Float → Bool
 in_range g move t sigma = finite move && accepted g t sigma
 
 -- the sigma to which a trusted place t is moved
-unfoldable pub moved_of : Geometry → List Float → Float → Float → Float → Float → Bool → Corrected
+unfoldable pub moved_of : Geometry → List Float → Float → Float → Float → Float → Bool → Result Float Missing
 moved_of g k beta t derivative curvature is_max =
     let move = bounded_of g beta (neg derivative ⊘ curvature) in
     let sigma = sigma_at g (t ⊕ move) in
     cond
     (in_range g move (t ⊕ move) sigma)
-    (Sigma (chosen_of g k t move (model_move_of g beta (k at 0) derivative curvature move) sigma is_max))
-    (NoSize Range)
+    (Ok (chosen_of g k t move (model_move_of g beta (k at 0) derivative curvature move) sigma is_max))
+    (Err Range)
 
 -- the corrected sigma of a spot with the samples l and the sigma that its fit gave
-unfoldable pub corrected_by : Prims → Set → List Float → Float → Bool → Corrected
+unfoldable pub corrected_by : Prims → Set → List Float → Float → Bool → Result Float Missing
 corrected_by p s l anchor is_max =
     let g = geometry_of s in
     let k = coeffs_of s.geometry l in
@@ -205,21 +202,21 @@ corrected_by p s l anchor is_max =
     cond
     (trusted g t derivative curvature is_max)
     (moved_of g k (blend_beta_by p g s.sigmas l) t derivative curvature is_max)
-    (NoSize Polarity)
+    (Err Polarity)
 
 -- the same by this build's max
-abbrev pub corrected_of : Set → List Float → Float → Bool → Corrected
+abbrev pub corrected_of : Set → List Float → Float → Bool → Result Float Missing
 corrected_of = corrected_by ours
 
 -- the corrected sigma, or the refusal with its cause
-unfoldable pub answer_of : Corrected → Correction
-answer_of (Sigma sigma) = Size sigma
-answer_of (NoSize why) = Refused (refusal.NoSize why)
+unfoldable pub answer_of : Result Float Missing → Result Float Refusal
+answer_of (Ok sigma) = Ok sigma
+answer_of (Err why) = Err (refusal.NoSize why)
 
 -- Correction checks the set, then answers a corrected sigma or why there is none.
-unfoldable pub correct_by : Prims → Set → List Float → Float → Bool → Correction
-correct_by p s l sigma is_max = cond (good s) (answer_of (corrected_by p s l sigma is_max)) (Refused refusal.BadSet)
+unfoldable pub correct_by : Prims → Set → List Float → Float → Bool → Result Float Refusal
+correct_by p s l sigma is_max = cond (good s) (answer_of (corrected_by p s l sigma is_max)) (Err refusal.BadSet)
 
 -- the same by this build's max
-abbrev pub correct_of : Set → List Float → Float → Bool → Correction
+abbrev pub correct_of : Set → List Float → Float → Bool → Result Float Refusal
 correct_of = correct_by ours

@@ -2,9 +2,9 @@
 ghost use Rattle.std.specs.Prelude.{◌≡◌};
 ghost use Rattle.size.specs.Correct.{geometry_of, no_blend, blend_of, beta_of, blend_beta_of, bounded_of, weight_of, signed_root, model_of, proposal_of, model_move_of, derivative_of, right_polarity, place_of, sigma_at, accepted, gain_of, gained, flatter, better, chosen_of, trusted, in_range, moved_of, corrected_of};
 
-use crate::{Corrected, Geometry};
+use crate::Geometry;
 use fit::scale_fit::{compute_geometry_poly_coeffs, curvature};
-use profile::{Statistic, profile_compatibility_statistic};
+use profile::{Absence, profile_compatibility_statistic};
 use tables::{Missing, Set};
 
 // The set's geometry numbers by name.
@@ -54,12 +54,12 @@ fn blend(g: Geometry, statistic: f32) -> f32
 }
 
 // The same, beta where the statistic is absent.
-pub fn profile_beta_from_statistic(g: Geometry, statistic: Statistic) -> f32
+pub fn profile_beta_from_statistic(g: Geometry, statistic: Result<f32, Absence>) -> f32
     ensures { result ≡ beta_of g statistic }
 {
     match statistic {
-        Statistic::Value(value) => blend(g, value),
-        Statistic::Absent(_) => g.beta,
+        Ok(value) => blend(g, value),
+        Err(_) => g.beta,
     }
 }
 
@@ -247,16 +247,24 @@ fn is_in_range(g: Geometry, step: f32, t: f32, sigma: f32) -> bool
 }
 
 // The sigma to which a trusted place t is moved.
-fn moved(g: Geometry, k: [f32; 4], beta: f32, t: f32, d: f32, c: f32, is_max: bool) -> Corrected
+fn moved(
+    g: Geometry,
+    k: [f32; 4],
+    beta: f32,
+    t: f32,
+    d: f32,
+    c: f32,
+    is_max: bool,
+) -> Result<f32, Missing>
     ensures { result ≡ moved_of g k beta t d c is_max }
 {
     let step = profile_bounded_move(g, beta, -d / c);
     let sigma = sigma_at(g, t + step);
     if is_in_range(g, step, t + step, sigma) {
         let model = profile_model_move(g, beta, k[0], d, c, step);
-        Corrected::Sigma(chosen(g, k, t, step, model, sigma, is_max))
+        Ok(chosen(g, k, t, step, model, sigma, is_max))
     } else {
-        Corrected::NoSize(Missing::Range)
+        Err(Missing::Range)
     }
 }
 
@@ -266,7 +274,7 @@ pub fn corrected_sigma_from_anchor(
     samples: [f32; 4],
     anchor: f32,
     is_max: bool,
-) -> Corrected
+) -> Result<f32, Missing>
     ensures { result ≡ corrected_of set samples anchor is_max }
 {
     let g = geometry_of(set);
@@ -279,6 +287,6 @@ pub fn corrected_sigma_from_anchor(
         let beta = profile_blend_beta(g, sigmas, samples);
         moved(g, k, beta, t, d, c, is_max)
     } else {
-        Corrected::NoSize(Missing::Polarity)
+        Err(Missing::Polarity)
     }
 }

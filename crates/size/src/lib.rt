@@ -9,20 +9,6 @@ use tables::{Missing, Refusal, Set};
 
 pub mod anchor;
 
-// What the inner correction answers: a corrected sigma, or why there is none.
-#[derive(Clone, Copy)]
-pub enum Corrected {
-    Sigma(f32),
-    NoSize(Missing),
-}
-
-// What the correction answers.
-#[derive(Clone, Copy)]
-pub enum Correction {
-    Size(f32),
-    Refused(Refusal),
-}
-
 // The set's geometry numbers by name: log sigma origin, curvature epsilon, fit T min and max, accepted sigma min and max, blend beta and boost,
 // compatibility lower and upper, move cap.
 #[derive(Clone, Copy)]
@@ -41,15 +27,11 @@ pub struct Geometry {
 }
 
 // The corrected sigma of a spot with these samples and this sigma; refused where the set is not good, or where the spot has no size.
-pub fn correct(set: Set, samples: [f32; 4], sigma: f32, is_max: bool) -> Correction
+pub fn correct(set: Set, samples: [f32; 4], sigma: f32, is_max: bool) -> Result<f32, Refusal>
     ensures { result ≡ correct_of set samples sigma is_max }
 {
     if !tables::is_good(set) {
-        return Correction::Refused(Refusal::BadSet);
+        return Err(Refusal::BadSet);
     }
-    let corrected = anchor::corrected_sigma_from_anchor(set, samples, sigma, is_max);
-    match corrected {
-        Corrected::Sigma(size) => Correction::Size(size),
-        Corrected::NoSize(why) => Correction::Refused(Refusal::NoSize(why)),
-    }
+    anchor::corrected_sigma_from_anchor(set, samples, sigma, is_max).map_err(Refusal::NoSize)
 }

@@ -1,4 +1,5 @@
 -- What a sized record says: a size and a cause from the record's own samples, sigma and polarity.
+use Rattle.std.specs.Prelude.{Result, Ok, Err}
 use Prim.Native.Nat.{ℕ, suc, ◌+◌}
 use native.Mathlib.Omega.{arith}
 use mathlib.Core.Bool.{true}
@@ -22,9 +23,6 @@ use Rattle.whole.specs.Nearest.{nearest_of}
 use Rattle.record.specs.Layout.{old_bytes, record_bytes}
 use Rattle.record.proofs.LayoutLaws.{length-old_bytes, length-record_bytes}
 use Rattle.size.specs.Correct.{answer_of, correct_by, correct_of}
-use Rattle.size.specs.declared.Corrected.{Corrected}
-use Rattle.size.specs.declared.Corrected.TheVariants.{Sigma, NoSize}
-use Rattle.size.specs.declared.Correction.TheVariants.{Size, Refused}
 use Rattle.size.proofs.CorrectLaws.{size-is-corrected, cause-is_corrects}
 use Rattle.sized.specs.Sized.{given_sigma, accepted_of, missing_of, samples_in, size_of, home_of, tail_bytes, sized_bytes, old_sized_bytes}
 
@@ -37,14 +35,14 @@ module _ (s : Set) (r : Record) where
   size-is_corrects g = rw g
 
   -- where correction answers a size, it stands after the record, old or not, then the home pixel, then accepted 1 and no cause
-  pub sized_with-size : (sigma : Float) → correct_of s (samples_in r) r.sigma (eqb r.polarity 1) ≡ Size sigma →
+  pub sized_with-size : (sigma : Float) → correct_of s (samples_in r) r.sigma (eqb r.polarity 1) ≡ Ok sigma →
       let tail = float_bytes sigma ++ (half_bytes (nearest_of r.y) ++ (half_bytes (nearest_of r.x) ++ (1 ∷ 0 ∷ 0 ∷ 0 ∷ []))) in
       (sized_bytes s r ≡ record_bytes r ++ tail) × (old_sized_bytes s r ≡ old_bytes r ++ tail)
   unfolding sized_bytes old_sized_bytes tail_bytes size_of home_of given_sigma accepted_of missing_of
   sized_with-size sigma e = let given = (size-is-corrected s (samples_in r) r.sigma (eqb r.polarity 1) sigma e).1 in (rw given, rw given)
 
   -- where correction answers that there is none, +0.0, accepted 0 and its cause stand there
-  pub sized_without : (why : Missing) → correct_of s (samples_in r) r.sigma (eqb r.polarity 1) ≡ Refused (refusal.NoSize why) →
+  pub sized_without : (why : Missing) → correct_of s (samples_in r) r.sigma (eqb r.polarity 1) ≡ Err (refusal.NoSize why) →
       let tail = float_bytes f0 ++ (half_bytes (nearest_of r.y) ++ (half_bytes (nearest_of r.x) ++ (0 ∷ cause_of why ∷ 0 ∷ 0 ∷ []))) in
       (sized_bytes s r ≡ record_bytes r ++ tail) × (old_sized_bytes s r ≡ old_bytes r ++ tail)
   unfolding sized_bytes old_sized_bytes tail_bytes size_of home_of given_sigma accepted_of missing_of
@@ -58,16 +56,16 @@ size-own s r t e0 e1 e2 e3 sigma polarity = rw (e0, e1, e2, e3, sigma, polarity)
 -- ---- the cause beside it
 
 -- the cause is 0 exactly where the size is accepted
-pub no_cause-accepted : (size : Corrected) → missing_of size ≡ 0 → accepted_of size ≡ 1
+pub no_cause-accepted : (size : Result Float Missing) → missing_of size ≡ 0 → accepted_of size ≡ 1
 unfolding missing_of accepted_of cause_of
-no_cause-accepted (Sigma sigma) e = refl
-no_cause-accepted (NoSize Polarity) e = let z : ⊥ = omega (arith, e) in absurd z
-no_cause-accepted (NoSize Range) e = let z : ⊥ = omega (arith, e) in absurd z
+no_cause-accepted (Ok sigma) e = refl
+no_cause-accepted (Err Polarity) e = let z : ⊥ = omega (arith, e) in absurd z
+no_cause-accepted (Err Range) e = let z : ⊥ = omega (arith, e) in absurd z
 
-pub accepted_no_cause : (size : Corrected) → accepted_of size ≡ 1 → missing_of size ≡ 0
+pub accepted_no_cause : (size : Result Float Missing) → accepted_of size ≡ 1 → missing_of size ≡ 0
 unfolding missing_of accepted_of
-accepted_no_cause (Sigma sigma) e = refl
-accepted_no_cause (NoSize why) e = let z : ⊥ = omega (arith, e) in absurd z
+accepted_no_cause (Ok sigma) e = refl
+accepted_no_cause (Err why) e = let z : ⊥ = omega (arith, e) in absurd z
 
 module _ (s : Set) (r : Record) (front : List ℕ) where
   abbrev rest : List ℕ

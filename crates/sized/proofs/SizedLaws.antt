@@ -1,4 +1,5 @@
 -- Laws of a sized record's bytes.
+use Rattle.std.specs.Prelude.{Result}
 use Prim.Native.Nat.{ℕ, ◌+◌}
 use native.Mathlib.Nat.{add_assoc}
 use native.Mathlib.Omega.{arith}
@@ -14,13 +15,13 @@ use Rattle.record.specs.Layout.{spot_width, old_width, old_bytes, record_bytes}
 use Rattle.words.proofs.Stores.{sets-append}
 use Rattle.words.proofs.WordsLaws.{length-half_bytes, length-float_bytes}
 use Rattle.record.proofs.LayoutLaws.{length-old_bytes, length-record_bytes}
-use Rattle.size.specs.declared.Corrected.{Corrected}
 use Rattle.sized.specs.declared.Home.{Home}
 use Rattle.sized.specs.Sized.{sized_width, old_sized_width, given_sigma, accepted_of, missing_of, size_of, home_of, tail_bytes, sized_bytes, old_sized_bytes}
+use Rattle.tables.specs.declared.Missing.{Missing}
 
 -- ---- lengths
 
-length-tail_bytes : (size : Corrected) (home : Home) → length (tail_bytes size home) ≡ 12
+length-tail_bytes : (size : Result Float Missing) (home : Home) → length (tail_bytes size home) ≡ 12
 unfolding tail_bytes half_bytes
 length-tail_bytes size home =
     omega (arith, length-append (float_bytes (given_sigma size)) (half_bytes home.row ++ (half_bytes home.col ++ (accepted_of size ∷ missing_of size ∷ 0 ∷ 0 ∷ []))), length-float_bytes (given_sigma size))
@@ -38,7 +39,7 @@ length-old_sized_bytes s r =
 -- ---- stores
 
 -- the four parts of a tail, stored one after the other
-pub tail_parts : {b c d e : List ℕ} {sigma : Float} {accepted missing : ℕ} (a : List ℕ) (at : ℕ) (size : Corrected) (home : Home)
+pub tail_parts : {b c d e : List ℕ} {sigma : Float} {accepted missing : ℕ} (a : List ℕ) (at : ℕ) (size : Result Float Missing) (home : Home)
     → sigma ≡ given_sigma size
     → accepted ≡ accepted_of size
     → missing ≡ missing_of size
@@ -52,7 +53,7 @@ tail_parts a at size home sigma-is accepted-is missing-is b-is c-is d-is e-is =
     simp (sets-append, length-float_bytes, length-half_bytes, add_assoc) (rw (e-is, d-is, c-is, b-is, sigma-is, accepted-is, missing-is))
 
 -- a record and its tail, stored one after the other
-pub sized_parts : {b c : List ℕ} {size : Corrected} {home : Home} (a : List ℕ) (at : ℕ) (s : Set) (r : Record)
+pub sized_parts : {b c : List ℕ} {size : (Result Float Missing)} {home : Home} (a : List ℕ) (at : ℕ) (s : Set) (r : Record)
     → size ≡ size_of s r
     → home ≡ home_of r
     → b ≡ sets a at (record_bytes r)
@@ -62,7 +63,7 @@ unfolding sized_bytes
 sized_parts a at s r size_is home-is b-is c-is = simp (sets-append, length-record_bytes) (rw (c-is, b-is, size_is, home-is))
 
 -- and the same of an old one
-pub old_sized_parts : {b c : List ℕ} {size : Corrected} {home : Home} (a : List ℕ) (at : ℕ) (s : Set) (r : Record)
+pub old_sized_parts : {b c : List ℕ} {size : (Result Float Missing)} {home : Home} (a : List ℕ) (at : ℕ) (s : Set) (r : Record)
     → size ≡ size_of s r
     → home ≡ home_of r
     → b ≡ sets a at (old_bytes r)

@@ -6,8 +6,7 @@ ghost use Rattle.std.proofs.lemmas.List.Edits.{sets};
 ghost use Rattle.sized.specs.Sized.{sized_width, old_sized_width, given_sigma, accepted_of, missing_of, tail_bytes, home_of, size_of, sized_bytes, old_sized_bytes, Placed};
 
 use record::{OLD_WIDTH, Record, SPOT_WIDTH};
-use size::Corrected;
-use tables::Set;
+use tables::{Missing, Set};
 
 // How many bytes a sized record has: the spot record's, and twelve more.
 pub const SIZED_WIDTH: usize = 60;
@@ -23,37 +22,34 @@ pub struct Home {
 }
 
 // The corrected sigma, +0.0 where no size is given.
-fn given_sigma(size: Corrected) -> f32
+fn given_sigma(size: Result<f32, Missing>) -> f32
     ensures { result ≡ given_sigma size }
 {
-    match size {
-        Corrected::Sigma(sigma) => sigma,
-        Corrected::NoSize(_) => 0.0,
-    }
+    size.unwrap_or(0.0)
 }
 
 // 1 where a size is given, else 0.
-fn accepted_of(size: Corrected) -> u8
+fn accepted_of(size: Result<f32, Missing>) -> u8
     ensures { result ≡ accepted_of size }
 {
     match size {
-        Corrected::Sigma(_) => 1,
-        Corrected::NoSize(_) => 0,
+        Ok(_) => 1,
+        Err(_) => 0,
     }
 }
 
 // Why the size is missing, 1 or 2; 0 where it is given.
-fn missing_of(size: Corrected) -> u8
+fn missing_of(size: Result<f32, Missing>) -> u8
     ensures { result ≡ missing_of size }
 {
     match size {
-        Corrected::Sigma(_) => 0,
-        Corrected::NoSize(why) => tables::refusals::cause_of(why),
+        Ok(_) => 0,
+        Err(why) => u8::from(why),
     }
 }
 
 // The size that a record's own samples, sigma and polarity give.
-fn size_of(set: Set, r: Record) -> Corrected
+fn size_of(set: Set, r: Record) -> Result<f32, Missing>
     ensures { result ≡ size_of set r }
 {
     let samples = [r.s0, r.s1, r.s2, r.s3];
@@ -77,7 +73,7 @@ fn home_of(r: Record) -> Home
 }
 
 // What follows a record of this size and home, from the byte at on.
-fn put_tail(out: &mut [u8], at: usize, size: Corrected, home: Home)
+fn put_tail(out: &mut [u8], at: usize, size: Result<f32, Missing>, home: Home)
     requires at_in_bounds { at + 12 ≤ length out.old }
     requires row_bound { (home.row < 2 ^ 16) × (home.col < 2 ^ 16) }
     ensures { out.new ≡ sets out.old at (tail_bytes size home) }

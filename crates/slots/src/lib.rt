@@ -4,7 +4,7 @@
 ghost use Rattle.std.specs.Prelude.{◌≡◌, ◌+◌, ◌≤◌, length};
 ghost use Rattle.std.specs.Float.{nan};
 ghost use Rattle.columns.specs.Line.{Written};
-ghost use Rattle.columns.specs.Sample.{stencil_at, Reach};
+ghost use Rattle.columns.specs.Sample.{stencil_at, Reach, Reaches};
 ghost use Rattle.rivals.specs.Window.{window_of};
 ghost use Rattle.slots.specs.Column.{Rings, line_at, read_at, Filled};
 
@@ -14,6 +14,7 @@ use columns::coef::coef_line;
 use columns::gate::gate_line;
 use columns::sample::{log_lines, stencil};
 use columns::stat::stat_line;
+use grid::Levels;
 use tables::{Set, Thresholds};
 
 // What the gates ask of a stationary point.
@@ -47,7 +48,6 @@ pub fn points<'a>(
     w: &mut [u32; 780],
 ) -> u32
     requires n_bound { (n ≤ 256) × (z + n ≤ 780) }
-    requires rings { Rings a.old b.old c.old d.old p.old v.old w.old }
     ensures { Filled set th (line_at s0.now s1.now s2.now s3.now) z n
         a.old b.old c.old d.old p.old v.old w.old
         a.new b.new c.new d.new p.new v.new w.new result }
@@ -64,11 +64,8 @@ pub fn points<'a>(
 }
 
 // n places of a column, in the slot at z; answers a number that none of their words exceeds.
-pub fn column<'a>(
-    l0: &'a [f32],
-    l1: &'a [f32],
-    l2: &'a [f32],
-    l3: &'a [f32],
+pub fn column(
+    levels: &Levels,
     left: usize,
     mid: usize,
     right: usize,
@@ -85,10 +82,8 @@ pub fn column<'a>(
     w: &mut [u32; 780],
 ) -> u32
     requires n_bound { (n ≤ 256) × (z + n ≤ 780) }
-    requires reach { (Reach (length l0.now) left mid right n) × (Reach (length l1.now) left mid right n) }
-    requires reach_2 { (Reach (length l2.now) left mid right n) × (Reach (length l3.now) left mid right n) }
-    requires rings { Rings a.old b.old c.old d.old p.old v.old w.old }
-    ensures { Filled set th (read_at l0.now l1.now l2.now l3.now set.sigmas left mid right) z n
+    requires reach { Reaches levels.now left mid right n }
+    ensures { Filled set th (read_at levels.now.l0.now levels.now.l1.now levels.now.l2.now levels.now.l3.now set.sigmas left mid right) z n
         a.old b.old c.old d.old p.old v.old w.old
         a.new b.new c.new d.new p.new v.new w.new result }
 {
@@ -101,10 +96,7 @@ pub fn column<'a>(
     let mut s2 = [0.0f32; 256];
     let mut s3 = [0.0f32; 256];
     log_lines(
-        l0,
-        l1,
-        l2,
-        l3,
+        levels,
         left,
         mid,
         right,
@@ -133,23 +125,17 @@ fn sample_line(
 )
     requires n_bound { n ≤ 256 }
     requires reach { Reach (length l.now) left mid right n }
-    requires s_len { length s.old ≡ 256 }
     ensures { Written nan s.old s.new 0 n (λ i x. x ≡ stencil_at l.now (left + i) (mid + i) (right + i) square) }
 {
-    let mut i: usize = 0;
-    while i < n {
+    for i in 0..n {
         s[i] = stencil(l, left + i, mid + i, right + i, square);
-        i += 1;
     }
 }
 
 // The same, the levels read one after the other: the columns of a ring of 4,096 rows lie a way of the nearest cache apart, and twelve of them read at once
 // push each other out of it.
-pub fn own_lines<'a>(
-    l0: &'a [f32],
-    l1: &'a [f32],
-    l2: &'a [f32],
-    l3: &'a [f32],
+pub fn own_lines(
+    levels: &Levels,
     left: usize,
     mid: usize,
     right: usize,
@@ -166,10 +152,8 @@ pub fn own_lines<'a>(
     w: &mut [u32; 780],
 ) -> u32
     requires n_bound { (n ≤ 256) × (z + n ≤ 780) }
-    requires reach { (Reach (length l0.now) left mid right n) × (Reach (length l1.now) left mid right n) }
-    requires reach_2 { (Reach (length l2.now) left mid right n) × (Reach (length l3.now) left mid right n) }
-    requires rings { Rings a.old b.old c.old d.old p.old v.old w.old }
-    ensures { Filled set th (read_at l0.now l1.now l2.now l3.now set.sigmas left mid right) z n
+    requires reach { Reaches levels.now left mid right n }
+    ensures { Filled set th (read_at levels.now.l0.now levels.now.l1.now levels.now.l2.now levels.now.l3.now set.sigmas left mid right) z n
         a.old b.old c.old d.old p.old v.old w.old
         a.new b.new c.new d.new p.new v.new w.new result }
 {
@@ -181,9 +165,9 @@ pub fn own_lines<'a>(
     let mut s1 = [0.0f32; 256];
     let mut s2 = [0.0f32; 256];
     let mut s3 = [0.0f32; 256];
-    sample_line(l0, left, mid, right, n, g0 * g0, &mut s0);
-    sample_line(l1, left, mid, right, n, g1 * g1, &mut s1);
-    sample_line(l2, left, mid, right, n, g2 * g2, &mut s2);
-    sample_line(l3, left, mid, right, n, g3 * g3, &mut s3);
+    sample_line(levels.l0, left, mid, right, n, g0 * g0, &mut s0);
+    sample_line(levels.l1, left, mid, right, n, g1 * g1, &mut s1);
+    sample_line(levels.l2, left, mid, right, n, g2 * g2, &mut s2);
+    sample_line(levels.l3, left, mid, right, n, g3 * g3, &mut s3);
     points(set, th, n, z, &s0, &s1, &s2, &s3, a, b, c, d, p, v, w)
 }

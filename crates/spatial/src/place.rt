@@ -14,18 +14,11 @@ pub fn get_q_scale_index(sigmas: [f32; 4], sigma: f32) -> u8
     if sigma <= sigmas[1] { 1 } else { 2 }
 }
 
-// A byte as a number to index by.
-fn wide(x: u8) -> usize
-    ensures { result ≡ x }
-{
-    x as usize
-}
-
 // The value that an order byte names; NaN where there is none.
 fn value_named(v: &[f32], name: u8) -> f32
     ensures { result ≡ v.now at name }
 {
-    let i = wide(name);
+    let i = usize::from(name);
     if i < v.len() { v[i] } else { 0.0 / 0.0 }
 }
 
@@ -54,10 +47,8 @@ fn row_sum(w: &[f32; 90], v: &[f32; 9], block: usize, row: usize) -> f32
 {
     let base = block + 9 * row;
     let mut acc = 0.0f32;
-    let mut i = 0usize;
-    while i < 9 {
+    for i in 0..9 {
         acc = acc + w[base + i] * v[i];
-        i += 1;
     }
     acc
 }

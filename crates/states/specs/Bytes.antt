@@ -1,17 +1,14 @@
 -- A feed's state as bytes, and what the two calls over bytes answer and leave. Definitions only.
-use Rattle.std.specs.Prelude.{ℕ, ◌+◌, cond, List, [], ◌∷◌, ◌++◌, ltb, length, get_or}
+use Rattle.std.specs.Prelude.{ℕ, ◌+◌, cond, List, [], ◌∷◌, ◌++◌, ltb, length, get_or, Result, Ok, Err, ⊤}
 use Rattle.std.proofs.lemmas.List.Edits.{sets}
 use Rattle.words.specs.Words.{word_bytes, float_bytes, word_from, float_from}
 use Rattle.tables.specs.declared.Thresholds.{Thresholds}
-use Rattle.tables.specs.declared.Checked.{Checked}
-use Rattle.tables.specs.declared.Checked.TheVariants.{Fine, Bad}
+use Rattle.tables.specs.declared.Refusal.{Refusal}
 use Rattle.tables.specs.declared.Refusal.TheVariants.{Room, Past}
 use Rattle.tables.specs.Set.{set_of}
-use Rattle.tables.specs.Refusal.{Check, ◌when◌, first_of, number, value, read_set_of}
+use Rattle.tables.specs.Refusal.{Check, ◌when◌, first_of, number, value, read_or_blank}
 use Rattle.samples.specs.Four.{Four}
 use Rattle.ring.specs.declared.State.{State}
-use Rattle.feed.specs.declared.Answer.{Answer}
-use Rattle.feed.specs.declared.Answer.TheVariants.{Taken, Refused}
 use Rattle.feed.specs.Feed.{start_checks, column_of}
 
 -- how many bytes a state has
@@ -49,7 +46,7 @@ state_check n = Room when ltb n state_width
 
 -- start's checks over bytes: start's own under the set that the record holds, then the buffer's
 unfoldable pub bytes_checks : List ℕ → Thresholds → ℕ → ℕ → ℕ → ℕ → ℕ → ℕ → ℕ → ℕ → List Check
-bytes_checks set th rows cols octave n0 n1 n2 n3 n = start_checks (read_set_of set).set th rows cols octave n0 n1 n2 n3 ++ (state_check n ∷ [])
+bytes_checks set th rows cols octave n0 n1 n2 n3 n = start_checks (read_or_blank set) th rows cols octave n0 n1 n2 n3 ++ (state_check n ∷ [])
 
 -- a number, and the whole buffer of the state
 pub record StartLeft : Type 0 where
@@ -61,9 +58,9 @@ abbrev pub start_left : ℕ → List ℕ → StartLeft
 start_left n b = record { number = n; state = b }
 
 -- a refusal writes nothing; otherwise the state is written at the buffer's start
-unfoldable pub start_left_by : Checked → List ℕ → Thresholds → ℕ → ℕ → ℕ → List ℕ → StartLeft
-start_left_by (Bad r) set th rows cols octave state = start_left (number r) state
-start_left_by Fine set th rows cols octave state = start_left 0 (sets state 0 (opened_bytes set th rows cols octave))
+unfoldable pub start_left_by : Result ⊤ Refusal → List ℕ → Thresholds → ℕ → ℕ → ℕ → List ℕ → StartLeft
+start_left_by (Err r) set th rows cols octave state = start_left (number r) state
+start_left_by (Ok _) set th rows cols octave state = start_left 0 (sets state 0 (opened_bytes set th rows cols octave))
 
 -- the whole of start over bytes
 unfoldable pub start_bytes : List ℕ → Thresholds → ℕ → ℕ → ℕ → ℕ → ℕ → ℕ → ℕ → List ℕ → StartLeft
@@ -85,12 +82,12 @@ abbrev pub column_left : ℕ → ℕ → List ℕ → Four → List ℕ → Colu
 column_left n v b ring out = record { number = n; value = v; state = b; ring = ring; out = out }
 
 -- a refusal changes nothing; a taken column moves the position by one, and all other bytes of the state are kept
-unfoldable pub column_left_by : Answer → List ℕ → Four → List ℕ → ColumnLeft
-column_left_by (Taken n) b ring out = column_left 0 n (sets b 556 (word_bytes (word_from b 556 + 1))) ring out
-column_left_by (Refused r) b ring out = column_left (number r) (value r) b ring out
+unfoldable pub column_left_by : Result ℕ Refusal → List ℕ → Four → List ℕ → ColumnLeft
+column_left_by (Ok n) b ring out = column_left 0 n (sets b 556 (word_bytes (word_from b 556 + 1))) ring out
+column_left_by (Err r) b ring out = column_left (number r) (value r) b ring out
 
 -- the whole of a column over bytes: too few of them hold no feed, and are past
 unfoldable pub column_bytes : List ℕ → Four → Four → List ℕ → ColumnLeft
 column_bytes b given ring out =
     let a = column_of (state_of b) given ring out in
-    cond (ltb (length b) state_width) (column_left_by (Refused Past) b ring out) (column_left_by a.answer b a.ring a.out)
+    cond (ltb (length b) state_width) (column_left_by (Err Past) b ring out) (column_left_by a.answer b a.ring a.out)

@@ -7,11 +7,11 @@ ghost use Rattle.std.specs.Prelude.{◌≡◌, length};
 ghost use Rattle.samples.specs.Four.{four_of};
 ghost use Rattle.states.specs.Bytes.{start_left, start_bytes, column_left, column_bytes};
 
-use feed::Answer;
-use tables::refusals::{number_of, value_of};
-use tables::{Checked, Refusal, Thresholds};
+use tables::refusals::value_of;
+use tables::{Refusal, Thresholds};
 
 // Begins a feed, and writes its state to the buffer. Answers 0, or the refusal's number, with the buffer as it was.
+// Stays: C takes the answer as a number, and passes the state as bytes and each level as a pointer.
 pub fn start<'a>(
     set: &'a [u8],
     thresholds: Thresholds,
@@ -27,15 +27,12 @@ pub fn start<'a>(
     ensures { start_left result state.new
         ≡ start_bytes set.now thresholds rows cols octave (length r0.now) (length r1.now) (length r2.now) (length r3.now) state.old }
 {
-    let read = tables::read_set(set);
-    let tables = read.set;
-    let started = feed::feed_start(tables, thresholds, rows, cols, octave, r0, r1, r2, r3);
-    let answer = started.answer;
-    match answer {
-        Checked::Bad(why) => number_of(why),
-        Checked::Fine => {
+    let tables = tables::read_or_blank(set);
+    match feed::feed_start(tables, thresholds, rows, cols, octave, r0, r1, r2, r3) {
+        Err(why) => u32::from(why),
+        Ok(_) => {
             if state.len() < 564 {
-                return number_of(Refusal::Room);
+                return u32::from(Refusal::Room);
             }
             bytes::write_state(set, thresholds, rows, cols, octave, state);
             0
@@ -45,6 +42,7 @@ pub fn start<'a>(
 
 // Gives the next column to the feed whose state lies in the buffer. Answers 0, with the count in value and the position moved by one, or the refusal's number,
 // with 0 in value and all else as it was.
+// Stays: C takes the answer as a number and its value through a pointer, and passes the state as bytes and each level as a pointer.
 pub fn column<'a>(
     state: &mut [u8],
     c0: &'a [f32],
@@ -64,20 +62,18 @@ pub fn column<'a>(
 {
     if state.len() < 564 {
         *value = 0;
-        return number_of(Refusal::Past);
+        return u32::from(Refusal::Past);
     }
-    let s = bytes::state_of(state);
-    let fed = feed::feed_column(s, c0, c1, c2, c3, r0, r1, r2, r3, out);
-    let answer = fed.answer;
-    match answer {
-        Answer::Taken(n) => {
+    let mut s = bytes::state_of(state);
+    match feed::feed_column(&mut s, c0, c1, c2, c3, r0, r1, r2, r3, out) {
+        Ok(n) => {
             bytes::advance(state);
             *value = n as u64;
             0
         }
-        Answer::Refused(why) => {
+        Err(why) => {
             *value = value_of(why);
-            number_of(why)
+            u32::from(why)
         }
     }
 }

@@ -1,14 +1,13 @@
 -- What each call of the store answers, and what it leaves in the buffer, as one value of its input. Definitions only.
-use Rattle.std.specs.Prelude.{ℕ, ◌-◌, ◌/◌, ◌%◌, Bool, not, cond, ◌&&◌, List, [], ◌∷◌, ◌++◌, ltb, leb, eqb, length, get_or, set, replicate}
+use Rattle.std.specs.Prelude.{ℕ, ◌-◌, ◌/◌, ◌%◌, Bool, not, cond, ◌&&◌, List, [], ◌∷◌, ◌++◌, ltb, leb, eqb, length, get_or, set, replicate, Result, Ok, Err, ⊤}
 use Rattle.tables.specs.declared.Refusal.TheVariants.{Records, Room, NoSpot}
-use Rattle.tables.specs.declared.Checked.{Checked}
-use Rattle.tables.specs.declared.Checked.TheVariants.{Fine, Bad}
+use Rattle.tables.specs.declared.Refusal.{Refusal}
 use Rattle.tables.specs.Refusal.{Check, ◌when◌, first_of, sides_check}
 use Rattle.record.specs.Layout.{spot_width, record_from}
 use Rattle.record.specs.Readable.{readable}
 use Rattle.store_slots.specs.Slots.{free_bytes, is_free, bad_slot, slots_of, flat, first_where}
 use Rattle.store.specs.declared.Stored.{Stored}
-use Rattle.store.specs.declared.Stored.TheVariants.{Done, At, Live, Refused}
+use Rattle.store.specs.declared.Stored.TheVariants.{Done, At, Live}
 
 -- what may be called: clear; and with the caller's rows and cols add a record's bytes, strike a slot, close up
 pub data Call : Type 0 where
@@ -62,11 +61,11 @@ unfoldable pub closed_up : List (List ℕ) → List (List ℕ)
 closed_up ss = live_slots ss ++ replicate (length ss - length (live_slots ss)) free_bytes
 
 -- the answer: adding gives the lowest free slot, closing up the number of live ones
-unfoldable pub answer_of : Call → List (List ℕ) → Stored
-answer_of Clear ss = Done
-answer_of (Add rows cols new) ss = At (first_where is_free ss)
-answer_of (Strike rows cols i) ss = Done
-answer_of (CloseUp rows cols) ss = Live (length (live_slots ss))
+unfoldable pub answer_of : Call → List (List ℕ) → Result Stored Refusal
+answer_of Clear ss = Ok Done
+answer_of (Add rows cols new) ss = Ok (At (first_where is_free ss))
+answer_of (Strike rows cols i) ss = Ok Done
+answer_of (CloseUp rows cols) ss = Ok (Live (length (live_slots ss)))
 
 -- the slots afterwards
 unfoldable pub slots_after : Call → List (List ℕ) → List (List ℕ)
@@ -79,17 +78,17 @@ slots_after (CloseUp rows cols) ss = closed_up ss
 
 -- an answer, and the whole buffer after it
 pub record Outcome : Type 0 where
-  pub answer : Stored
+  pub answer : Result Stored Refusal
   pub buffer : List ℕ
 
 -- these two, given one by one
-abbrev pub outcome : Stored → List ℕ → Outcome
+abbrev pub outcome : Result Stored Refusal → List ℕ → Outcome
 outcome a b = record { answer = a; buffer = b }
 
 -- a refusal leaves the buffer as it was; otherwise the call is done
-unfoldable pub finished : Checked → List ℕ → Outcome → Outcome
-finished (Bad r) b o = outcome (Refused r) b
-finished Fine b o = o
+unfoldable pub finished : Result ⊤ Refusal → List ℕ → Outcome → Outcome
+finished (Err r) b o = outcome (Err r) b
+finished (Ok _) b o = o
 
 -- the whole of a call
 unfoldable pub call_of : Call → List ℕ → Outcome

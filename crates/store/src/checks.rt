@@ -6,7 +6,7 @@ ghost use Rattle.store.specs.Store.{good_new, call_checks, Add, Strike, CloseUp}
 
 use record::SPOT_WIDTH;
 use store_slots::search;
-use tables::{Checked, Refusal};
+use tables::Refusal;
 
 // Whether a new record is as long as a slot, and readable.
 fn is_good_new(rows: usize, cols: usize, spot: &[u8]) -> bool
@@ -21,57 +21,47 @@ fn is_good_new(rows: usize, cols: usize, spot: &[u8]) -> bool
 }
 
 // Closing up has those that adding and striking begin with: 1, 5 for the length, 5 for a slot.
-pub fn close_up(rows: usize, cols: usize, b: &[u8]) -> Checked
+pub fn close_up(rows: usize, cols: usize, b: &[u8]) -> Result<(), Refusal>
     ensures { result ≡ first_of (call_checks (CloseUp rows cols) b.now) }
 {
     if (4096 < rows) | (4096 < cols) {
-        return Checked::Bad(Refusal::Size);
+        return Err(Refusal::Size);
     }
     let count = b.len() / SPOT_WIDTH;
     if b.len() % SPOT_WIDTH != 0 {
-        return Checked::Bad(Refusal::Records(count));
+        return Err(Refusal::Records(count));
     }
     let bad = search::first_bad(rows, cols, b);
     if bad < count {
-        return Checked::Bad(Refusal::Records(bad));
+        return Err(Refusal::Records(bad));
     }
-    Checked::Fine
+    Ok(())
 }
 
 // Adding: then 5 for the new record, and 6 where free, the lowest free slot, is past the end.
-pub fn add(rows: usize, cols: usize, spot: &[u8], b: &[u8], free: usize) -> Checked
+pub fn add(rows: usize, cols: usize, spot: &[u8], b: &[u8], free: usize) -> Result<(), Refusal>
     requires { free ≡ first_where is_free (slots_of b.now) }
     ensures { result ≡ first_of (call_checks (Add rows cols spot.now) b.now) }
 {
-    let check = close_up(rows, cols, b);
-    match check {
-        Checked::Bad(why) => Checked::Bad(why),
-        Checked::Fine => {
-            let slots = b.len() / SPOT_WIDTH;
-            let good = is_good_new(rows, cols, spot);
-            if !good {
-                return Checked::Bad(Refusal::Records(slots));
-            }
-            if slots <= free {
-                return Checked::Bad(Refusal::Room);
-            }
-            Checked::Fine
-        }
+    close_up(rows, cols, b)?;
+    let slots = b.len() / SPOT_WIDTH;
+    let good = is_good_new(rows, cols, spot);
+    if !good {
+        return Err(Refusal::Records(slots));
     }
+    if slots <= free {
+        return Err(Refusal::Room);
+    }
+    Ok(())
 }
 
 // Striking: then 13.
-pub fn strike(rows: usize, cols: usize, i: usize, b: &[u8]) -> Checked
+pub fn strike(rows: usize, cols: usize, i: usize, b: &[u8]) -> Result<(), Refusal>
     ensures { result ≡ first_of (call_checks (Strike rows cols i) b.now) }
 {
-    let check = close_up(rows, cols, b);
-    match check {
-        Checked::Bad(why) => Checked::Bad(why),
-        Checked::Fine => {
-            if !search::is_live(b, i) {
-                return Checked::Bad(Refusal::NoSpot);
-            }
-            Checked::Fine
-        }
+    close_up(rows, cols, b)?;
+    if !search::is_live(b, i) {
+        return Err(Refusal::NoSpot);
     }
+    Ok(())
 }

@@ -9,67 +9,53 @@ ghost use Rattle.store.specs.Store.{outcome, call_of, Clear, Add, Strike, CloseU
 
 use record::SPOT_WIDTH;
 use store_slots::{search, slot};
-use tables::{Checked, Refusal};
+use tables::Refusal;
 use words::put_first;
 
-// What a call answers: done; the slot that was taken; the number of live records; or why it was refused.
+// What a call that is not refused answers: done; the slot that was taken; or the number of live records.
 #[derive(Clone, Copy)]
 pub enum Stored {
     Done,
     At(usize),
     Live(usize),
-    Refused(Refusal),
 }
 
 // Frees every slot. Asks only for whole slots.
-pub fn clear(buffer: &mut [u8]) -> Stored
+pub fn clear(buffer: &mut [u8]) -> Result<Stored, Refusal>
     ensures { outcome result buffer.new ≡ call_of Clear buffer.old }
 {
     let count = buffer.len() / SPOT_WIDTH;
     if buffer.len() % SPOT_WIDTH != 0 {
-        return Stored::Refused(Refusal::Records(count));
+        return Err(Refusal::Records(count));
     }
     moving::free_from(buffer, 0);
-    Stored::Done
+    Ok(Stored::Done)
 }
 
 // Puts a record into the lowest free slot, which is answered.
-pub fn add(buffer: &mut [u8], rows: usize, cols: usize, spot: &[u8]) -> Stored
+pub fn add(buffer: &mut [u8], rows: usize, cols: usize, spot: &[u8]) -> Result<Stored, Refusal>
     ensures { outcome result buffer.new ≡ call_of (Add rows cols spot.now) buffer.old }
 {
     let free = search::first_free(buffer);
-    let check = checks::add(rows, cols, spot, buffer, free);
-    match check {
-        Checked::Bad(why) => Stored::Refused(why),
-        Checked::Fine => {
-            put_first(buffer, free * SPOT_WIDTH, spot, SPOT_WIDTH);
-            Stored::At(free)
-        }
-    }
+    checks::add(rows, cols, spot, buffer, free)?;
+    put_first(buffer, free * SPOT_WIDTH, spot, SPOT_WIDTH);
+    Ok(Stored::At(free))
 }
 
 // Frees the slot i.
-pub fn strike(buffer: &mut [u8], rows: usize, cols: usize, i: usize) -> Stored
+pub fn strike(buffer: &mut [u8], rows: usize, cols: usize, i: usize) -> Result<Stored, Refusal>
     ensures { outcome result buffer.new ≡ call_of (Strike rows cols i) buffer.old }
 {
-    let check = checks::strike(rows, cols, i, buffer);
-    match check {
-        Checked::Bad(why) => Stored::Refused(why),
-        Checked::Fine => {
-            let free = slot::free_bytes();
-            put_first(buffer, i * SPOT_WIDTH, &free, SPOT_WIDTH);
-            Stored::Done
-        }
-    }
+    checks::strike(rows, cols, i, buffer)?;
+    let free = slot::free_bytes();
+    put_first(buffer, i * SPOT_WIDTH, &free, SPOT_WIDTH);
+    Ok(Stored::Done)
 }
 
 // Moves the live records down in their order, frees the rest, and answers the live number.
-pub fn close_up(buffer: &mut [u8], rows: usize, cols: usize) -> Stored
+pub fn close_up(buffer: &mut [u8], rows: usize, cols: usize) -> Result<Stored, Refusal>
     ensures { outcome result buffer.new ≡ call_of (CloseUp rows cols) buffer.old }
 {
-    let check = checks::close_up(rows, cols, buffer);
-    match check {
-        Checked::Bad(why) => Stored::Refused(why),
-        Checked::Fine => Stored::Live(moving::close_up(buffer)),
-    }
+    checks::close_up(rows, cols, buffer)?;
+    Ok(Stored::Live(moving::close_up(buffer)))
 }

@@ -16,10 +16,8 @@ pub fn free_from(b: &mut [u8], i: usize)
 {
     let count = b.len() / SPOT_WIDTH;
     let free = slot::free_bytes();
-    let mut k = i;
-    while k < count {
+    for k in i..count {
         put_first(b, k * SPOT_WIDTH, &free, SPOT_WIDTH);
-        k += 1;
     }
 }
 
@@ -45,10 +43,8 @@ pub fn close_up(b: &mut [u8]) -> usize
 {
     let count = b.len() / SPOT_WIDTH;
     let mut n: usize = 0;
-    let mut i: usize = 0;
-    while i < count {
+    for i in 0..count {
         n = move_down(b, i, n);
-        i += 1;
     }
     free_from(b, n);
     n

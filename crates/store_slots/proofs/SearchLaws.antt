@@ -1,18 +1,19 @@
--- Laws of the search: it finds a slot that the test holds of, and no earlier one; and it goes turn by turn. Assumes nothing.
-use Prim.Native.Nat.{ℕ, zero, suc, ◌+◌, ◌*◌, ◌/◌, ◌≤◌, ◌<◌}
+-- Laws of the search: it finds a slot that the test holds of, and no earlier one; and it is the library's. Assumes nothing.
+use Prim.Native.Nat.{ℕ, zero, suc, ◌+◌, ◌≤◌, ◌<◌}
 use native.Mathlib.Nat.{not-suc-le-zero, le_of_suc-le-suc}
-use native.Mathlib.Numerals.{add-one}
 use native.Mathlib.Omega.{arith}
-use mathlib.Core.Bool.{Bool, true, false, cond, ◌&&◌, false≢true}
-use mathlib.Core.Path.{◌≡◌, refl, sym, ap, ◌∙◌}
+use mathlib.Core.Bool.{Bool, true, false, cond}
+use mathlib.Core.Path.{◌≡◌, refl, ap}
 use mathlib.Core.List.{List, [], ◌∷◌}
-use lib.Dec.{ltb, eqb}
-use lib.ListN.{length, get_or, take, drop, drop_of_length-le}
-use lib.Seq.{drop-cons}
-use borrow.Author.Tests.{ltb-false, eq-eqb}
+use lib.Dec.{ltb}
+use lib.ListN.{length, get_or, take, drop}
+use Rattle.std.proofs.Common.{Option, Some, None, unwrap_or}
+use Rattle.std.specs.List.{position_or_len}
+use Rattle.std.specs.Simd.{first_chunks}
+use Rattle.std.proofs.lemmas.Bool.Decides.{nat_tests}
+use Rattle.std.proofs.lemmas.List.Recursion.{is_position_or_len}
 use Rattle.record.specs.Layout.{spot_width}
-use Rattle.store_slots.specs.Slots.{slots_of, first_where}
-use Rattle.store_slots.proofs.SlotLaws.{count_of, slot_at}
+use Rattle.store_slots.specs.Slots.{slots_from, first_where}
 
 module _ (test : List ℕ → Bool) where
   -- ---- what it finds
@@ -53,58 +54,30 @@ module _ (test : List ℕ → Bool) where
   where_none [] d h = refl
   where_none (s ∷ ss) d h = rw (h 0 (omega arith)) (ap suc (where_none ss d (λ k less. h (suc k) (omega arith))))
 
-  -- ---- turn by turn
+  -- ---- it is the library's search
 
-  -- the first i slots of a buffer were looked at: the test held of none, and found is their number; or found is the first that it holds of
-  pub data Searched (b : List ℕ) (i found : ℕ) : Type 0 where
-    Not_yet : found ≡ length b / spot_width → first_where test (slots_of b) ≡ i + first_where test (drop i (slots_of b)) → Searched b i found
-    Here : found < length b / spot_width → first_where test (slots_of b) ≡ found → Searched b i found
+  where_most : (ss : List (List ℕ)) → first_where test ss ≤ length ss
+  unfolding first_where
+  where_most [] = omega arith
+  where_most (s ∷ ss) = go (test s) (where_most ss)
+    where
+      go : (t : Bool) → first_where test ss ≤ length ss → cond t 0 (suc (first_where test ss)) ≤ suc (length ss)
+      go true l = omega arith
+      go false l = omega arith
 
-  module _ (b : List ℕ) where
-    pub searched_start : Searched b 0 (length b / spot_width)
-    searched_start = Not_yet refl (omega arith)
+  where_position : (ss : List (List ℕ)) → first_where test ss ≡ position_or_len test ss
+  unfolding first_where
+  where_position = is_position_or_len (first_where test) test refl (λ s ss. let e : 1 + first_where test ss ≡ suc (first_where test ss) = omega arith in rw e)
 
-    module _ (i found : ℕ) (s : Searched b i found) (yet : found ≡ length b / spot_width) (inside : i < length b / spot_width) where
-      -- the next slot
-      abbrev slot : List ℕ
-      slot = take spot_width (drop (i * spot_width) b)
+  -- of a place found, or none, with their number in its stead
+  pub where_found : (ss : List (List ℕ)) (r : Option ℕ) → r ≡ cond (ltb (position_or_len test ss) (length ss)) (Some (position_or_len test ss)) None → unwrap_or r (length ss) ≡ first_where test ss
+  where_found ss r e = rw (e, ← where_position ss) (go (first_where test ss) (where_most ss))
+    where
+      go : (p : ℕ) → p ≤ length ss → unwrap_or (cond (ltb p (length ss)) (Some p) None) (length ss) ≡ p
+      go p h = grind (arith, nat_tests)
 
-      passed : first_where test (slots_of b) ≡ i + first_where test (slot ∷ drop (i + 1) (slots_of b))
-      passed = go s
-        where
-          first : drop i (slots_of b) ≡ slot ∷ drop (i + 1) (slots_of b)
-          first =
-              let l : i < length (slots_of b) = omega (arith, count_of b) in
-              rw (drop-cons (slots_of b) i [] l, slot_at (length b / spot_width) b i [] inside, add-one)
-
-          go : Searched b i found → first_where test (slots_of b) ≡ i + first_where test (slot ∷ drop (i + 1) (slots_of b))
-          go (Not_yet e p) = p ∙ rw first
-          go (Here l e) = let z : ⊥ = omega arith in absurd z
-
-      pub searched_here : test slot ≡ true → Searched b (i + 1) i
-      unfolding first_where
-      searched_here e = let none : i + 0 ≡ i = omega arith in Here inside (passed ∙ rw e none)
-
-      pub searched_next : test slot ≡ false → Searched b (i + 1) found
-      unfolding first_where
-      searched_next e =
-          let next : (n : ℕ) → i + suc n ≡ i + 1 + n = λ n. omega arith in
-          Not_yet yet (passed ∙ rw e (next (first_where test (drop (i + 1) (slots_of b)))))
-
-    -- where all slots were looked at, or one was found, it is told
-    pub searched_end : (i found : ℕ) → Searched b i found → i ≤ length b / spot_width → (found ≡ length b / spot_width → length b / spot_width ≤ i) → found ≡ first_where test (slots_of b)
-    unfolding first_where
-    searched_end i found (Not_yet e p) most all =
-        let rest : drop i (slots_of b) ≡ [] = drop_of_length-le (slots_of b) {i = i} (omega (arith, count_of b, all e)) in
-        let none : i + 0 ≡ i = omega arith in
-        let told : first_where test (slots_of b) ≡ i = p ∙ rw rest none in
-        omega (arith, all e)
-    searched_end i found (Here l e) most all = sym e
-
--- a loop over n slots ended without having found one only where it looked at all
-pub loop_over : (i found n : ℕ) → (ltb i n && eqb found n) ≡ false → found ≡ n → n ≤ i
-loop_over i found n e h = go (ltb i n) refl (rw (eq-eqb found n h) at e)
-  where
-    go : (t : Bool) → ltb i n ≡ t → (t && true) ≡ false → n ≤ i
-    go true l f = absurd (false≢true (sym f))
-    go false l f = ltb-false i n l
+-- and the slots of a buffer are the library's chunks of it
+pub slots_chunks : (n : ℕ) (b : List ℕ) → slots_from n b ≡ first_chunks spot_width n b
+unfolding slots_from
+slots_chunks zero b = refl
+slots_chunks (suc n) b = ap (λ (r : List (List ℕ)). take spot_width b ∷ r) (slots_chunks n (drop spot_width b))

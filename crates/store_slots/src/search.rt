@@ -11,36 +11,22 @@ pub fn first_bad(rows: usize, cols: usize, b: &[u8]) -> usize
     requires cols_bound { cols ≤ 4096 }
     ensures { result ≡ first_where (bad_slot rows cols) (slots_of b.now) }
 {
-    let count = b.len() / SPOT_WIDTH;
-    let mut bad = count;
-    let mut i: usize = 0;
-    while (i < count) & (bad == count) {
-        let at = i * SPOT_WIDTH;
-        let end = at + SPOT_WIDTH;
-        if slot::is_bad(rows, cols, &b[at..end]) {
-            bad = i;
-        }
-        i += 1;
-    }
-    bad
+    let (slots, _) = b.as_chunks::<SPOT_WIDTH>();
+    slots
+        .iter()
+        .position(|s| slot::is_bad(rows, cols, s))
+        .unwrap_or(slots.len())
 }
 
 // The place of the lowest free slot; their number where none is.
 pub fn first_free(b: &[u8]) -> usize
     ensures { result ≡ first_where is_free (slots_of b.now) }
 {
-    let count = b.len() / SPOT_WIDTH;
-    let mut free = count;
-    let mut i: usize = 0;
-    while (i < count) & (free == count) {
-        let at = i * SPOT_WIDTH;
-        let end = at + SPOT_WIDTH;
-        if slot::is_free(&b[at..end]) {
-            free = i;
-        }
-        i += 1;
-    }
-    free
+    let (slots, _) = b.as_chunks::<SPOT_WIDTH>();
+    slots
+        .iter()
+        .position(|s| slot::is_free(s))
+        .unwrap_or(slots.len())
 }
 
 // Whether the slot i holds a record; past the end none does.

@@ -21,15 +21,7 @@ pub fn is_free(s: &[u8]) -> bool
     requires { length s.now ≡ spot_width }
     ensures { result ≡ is_free s.now }
 {
-    let free = free_bytes();
-    let mut k: usize = 0;
-    while k < SPOT_WIDTH {
-        if s[k] != free[k] {
-            return false;
-        }
-        k += 1;
-    }
-    true
+    s == free_bytes().as_slice()
 }
 
 // Whether the slot is neither free nor holds a readable record.
@@ -51,10 +43,6 @@ pub fn bytes_at(b: &[u8], at: usize) -> [u8; SPOT_WIDTH]
     ensures { result ≡ take spot_width (drop at b.now) }
 {
     let mut s = [0u8; SPOT_WIDTH];
-    let mut k: usize = 0;
-    while k < SPOT_WIDTH {
-        s[k] = b[at + k];
-        k += 1;
-    }
+    s.copy_from_slice(&b[at..at + SPOT_WIDTH]);
     s
 }

@@ -1,5 +1,6 @@
 -- One column more: what the lists rule out lists nothing, and the two columns before the next one stand in their slots. Assumes nothing.
-use Prim.Native.Nat.{ℕ, zero, suc, ◌+◌, ◌-◌, ◌*◌, ◌/◌, ◌%◌, ◌≤◌, ◌<◌}
+use Rattle.std.specs.Prelude.{None}
+use Prim.Native.Nat.{ℕ, zero, suc, min, ◌+◌, ◌-◌, ◌*◌, ◌/◌, ◌%◌, ◌≤◌, ◌<◌}
 use native.Mathlib.Nat.{eq-or-lt_of_le}
 use native.Mathlib.Omega.{arith}
 use mathlib.Core.Path.{◌≡◌, sym, ◌∙◌, subst}
@@ -10,7 +11,6 @@ use lib.Dec.{T, eqb, ltb, ltb→lt, nltb→le}
 use lib.ListN.{length, get_or}
 use lib.Ieee.{Float}
 use Rattle.tables.specs.declared.Set.{Set}
-use Rattle.pixel.specs.declared.Verdict.TheVariants.{Nothing}
 use Rattle.samples.specs.Level.{Maps, samples_at, nine_at}
 use Rattle.samples.proofs.LevelLaws.{length_nine, nine_place}
 use Rattle.rivals.specs.Off.{Thin}
@@ -76,7 +76,7 @@ module _ (m : Maps) (j n col x y z : ℕ) (a b c d p v : List Float) (w : List �
       by q (suc (suc (suc r))) k l = let o : ⊥ = omega arith in absurd o
 
   -- what the lists rule out of the middle one lists nothing
-  pub column_ruled : 1 ≤ col → n ≤ 254 → (marks marks' : List ℕ) → Passed m.set m.thresholds.ratio n x y z a b c d p v w col marks marks' → (i : ℕ) → i < n → mark_at marks' i col ≡ 0 → (is_max : Bool) → verdict_at m (j + i + 4) col is_max ≡ Nothing
+  pub column_ruled : 1 ≤ col → n ≤ 254 → (marks marks' : List ℕ) → Passed m.set m.thresholds.ratio n x y z a b c d p v w col marks marks' → (i : ℕ) → i < n → mark_at marks' i col ≡ 0 → (is_max : Bool) → verdict_at m (j + i + 4) col is_max ≡ None
   column_ruled left short marks marks' passed i h e is_max =
       off-rules m.set m.thresholds m.frame (nine_at m (j + i + 4) col) (j + i + 4) col x y z i a b c d p v w (around left i h) is_max (omega arith) (passed.sure i h e) (passed.off i h e is_max)
 
@@ -143,7 +143,7 @@ module _ (m : Maps) (j n col before any : ℕ) (a b c d p v : List Float) (w : L
       plus : col ≡ col - 1 + 1
       plus = omega arith
 
-      last : (i : ℕ) → i < n → mark_at marks' i (col - 1) ≡ 0 → (is_max : Bool) → verdict_at m (j + i + 4) (col - 1) is_max ≡ Nothing
+      last : (i : ℕ) → i < n → mark_at marks' i (col - 1) ≡ 0 → (is_max : Bool) → verdict_at m (j + i + 4) (col - 1) is_max ≡ None
       last =
           column_ruled m j n (col - 1) (slot_of (col + 1)) (slot_of (col + 2)) (slot_of col) a' b' c' d' p' v' w'
           (subst (λ (u : ℕ). Lines m j n u (slot_of (col + 1)) a' b' c' d' p' v' w') minus (far-kept late)) (near-kept (omega arith))
@@ -155,8 +155,8 @@ module _ (m : Maps) (j n col before any : ℕ) (a b c d p v : List Float) (w : L
           within : k ≤ col - 1
           within = omega arith
 
-          go : (k ≡ col - 1) ⊎ (k < col - 1) → mark_at marks' i k ≡ 0 → (is_max : Bool) → verdict_at m (j + i + 4) k is_max ≡ Nothing
-          go (inl e) mark is_max = subst (λ (u : ℕ). verdict_at m (j + i + 4) u is_max ≡ Nothing) (sym e) (last i h (subst (λ (u : ℕ). mark_at marks' i u ≡ 0) e mark) is_max)
+          go : (k ≡ col - 1) ⊎ (k < col - 1) → mark_at marks' i k ≡ 0 → (is_max : Bool) → verdict_at m (j + i + 4) k is_max ≡ None
+          go (inl e) mark is_max = subst (λ (u : ℕ). verdict_at m (j + i + 4) u is_max ≡ None) (sym e) (last i h (subst (λ (u : ℕ). mark_at marks' i u ≡ 0) e mark) is_max)
           go (inr l) mark is_max = was.ruled i k h four l (sym (passed.same i k (omega arith) (omega arith) (λ e. let o : ⊥ = omega arith in absurd o)) ∙ mark) is_max
 
 -- ---- the first column, and after the last one
@@ -183,6 +183,14 @@ height-fits left = go (ltb left 254) (ltb→lt left 254) (nltb→le left 254) wh
   go true less over = let l = less tt in (omega arith, omega arith)
   go false less over = let l = over tt in (omega arith, omega arith)
 
+-- it is the lesser of left and 254
+pub height_least : (left : ℕ) → min left 254 ≡ height_of left
+unfolding height_of
+height_least left = go (ltb left 254) (ltb→lt left 254) (nltb→le left 254) where
+  go : (b : Bool) → (T b → left < 254) → (T (not b) → 254 ≤ left) → min left 254 ≡ cond b left 254
+  go true less over = let l = less tt in omega arith
+  go false less over = let l = over tt in omega arith
+
 height-holds : (left r : ℕ) → r < left → r < 254 → r < height_of left
 unfolding height_of
 height-holds left r p q = go (ltb left 254) where
@@ -197,10 +205,10 @@ block_begun m j {marks} h p =
     record { long = p.0; ruled = subst (λ (u : ℕ). Ruled m u (height_of (m.frame.rows - 8 - u)) (m.frame.cols - 4) marks) e p.1 }
 
 -- a pixel of the judged row j without a mark lists nothing
-pub unmarked-nothing : (m : Maps) (j k : ℕ) {marks : List ℕ} → j + 8 < m.frame.rows → k + 8 < m.frame.cols → Block m j marks → mark_at marks (j % 254) (k + 4) ≡ 0 → (is_max : Bool) → verdict_at m (j + 4) (k + 4) is_max ≡ Nothing
+pub unmarked-nothing : (m : Maps) (j k : ℕ) {marks : List ℕ} → j + 8 < m.frame.rows → k + 8 < m.frame.cols → Block m j marks → mark_at marks (j % 254) (k + 4) ≡ 0 → (is_max : Bool) → verdict_at m (j + 4) (k + 4) is_max ≡ None
 unmarked-nothing m j k {marks} inside within block e is_max =
     let whole : j / 254 * 254 + j % 254 ≡ j = omega arith in
-    subst (λ (u : ℕ). verdict_at m (u + 4) (k + 4) is_max ≡ Nothing) whole
+    subst (λ (u : ℕ). verdict_at m (u + 4) (k + 4) is_max ≡ None) whole
     (block.ruled (j % 254) (k + 4) (height-holds _ (j % 254) (omega arith) (omega arith)) (omega arith) (omega arith) e is_max)
 
 -- the next row lies in the same block, unless it begins one

@@ -1,22 +1,21 @@
 -- What the pass claims: a mark of 0 means that the pixel lists nothing. Definitions only.
-use Rattle.std.specs.Prelude.{ℕ, ◌+◌, ◌-◌, ◌*◌, ◌/◌, ◌%◌, ◌≤◌, ◌<◌, ◌≡◌, Bool, cond, List, ltb, length, get_or, Float}
+use Rattle.std.specs.Prelude.{ℕ, ◌+◌, ◌-◌, ◌*◌, ◌/◌, ◌%◌, ◌≤◌, ◌<◌, ◌≡◌, Bool, cond, List, ltb, length, get_or, Float, Option, None}
 use Rattle.tables.specs.declared.Set.{Set}
 use Rattle.pixel.specs.Verdict.{verdict_of}
-use Rattle.pixel.specs.declared.Verdict.{Verdict}
-use Rattle.pixel.specs.declared.Verdict.TheVariants.{Nothing}
 use Rattle.samples.specs.Level.{Maps, samples_at, nine_at}
 use Rattle.rivals.specs.Off.{Off}
 use Rattle.rivals.specs.Ready.{Slot}
 use Rattle.marks.specs.Marks.{mark_at}
 use Rattle.slots.specs.Column.{Rings}
+use Rattle.record.specs.declared.Record.{Record}
 
 -- the verdict on a pixel of the map
-abbrev pub verdict_at : Maps → ℕ → ℕ → Bool → Verdict
+abbrev pub verdict_at : Maps → ℕ → ℕ → Bool → Option Record
 verdict_at m row col is_max = verdict_of m.set m.thresholds m.frame (nine_at m row col) row col is_max
 
 -- of n judged rows from the judged row j on and the columns 4 to before c: a mark of 0 means that the pixel lists nothing
 abbrev pub Ruled : Maps → ℕ → ℕ → ℕ → List ℕ → Type 0
-Ruled m j n c marks = (i k : ℕ) → i < n → 4 ≤ k → k < c → mark_at marks i k ≡ 0 → (is_max : Bool) → verdict_at m (j + i + 4) k is_max ≡ Nothing
+Ruled m j n c marks = (i k : ℕ) → i < n → 4 ≤ k → k < c → mark_at marks i k ≡ 0 → (is_max : Bool) → verdict_at m (j + i + 4) k is_max ≡ None
 
 -- the height of the block that begins where left judged rows are left
 unfoldable pub height_of : ℕ → ℕ

@@ -1,13 +1,13 @@
 // A block of rows, column by column.
 ghost use Rattle.std.specs.Prelude.{◌≡◌, ℕ, ◌+◌, ◌-◌, ◌≤◌, ◌<◌, length, get_or};
-ghost use Rattle.samples.specs.Level.{maps_of, Sized};
+ghost use Rattle.samples.specs.Map.{maps_in};
 ghost use Rattle.sweep.specs.Ruled.{Ruled, Before, Passed};
 
 use marks::put_line;
-use pixel::Frame;
 use rivals::thin::thin;
+use samples::map::Map;
 use slots::column;
-use tables::{Set, Thresholds};
+use tables::Set;
 
 // The marks of the column col, whose lines stand in the slot at y, between those of its neighbours at x and z.
 fn mark<'a>(
@@ -30,7 +30,7 @@ fn mark<'a>(
 )
     requires x_bound { (x ≤ 520) × (y ≤ 520) }
     requires z_bound { (z ≤ 520) × (n ≤ 254) }
-    requires col_bound { (col < 4096) × (length marks.old ≡ 131072) }
+    requires col_bound { col < 4096 }
     requires by_index { (i : ℕ) → i < n → get_or w.now (y + i + 1) 0 ≤ any }
     ensures { Passed set ratio n x y z a.now b.now c.now d.now p.now v.now w.now col
         marks.old marks.new }
@@ -41,14 +41,8 @@ fn mark<'a>(
 }
 
 // The lines of the column col and the marks of the one before it, for the block of n judged rows from the judged row j on.
-fn step<'a>(
-    l0: &'a [f32],
-    l1: &'a [f32],
-    l2: &'a [f32],
-    l3: &'a [f32],
-    f: Frame,
-    set: Set,
-    th: Thresholds,
+fn step(
+    map: &Map,
     j: usize,
     n: usize,
     col: usize,
@@ -62,24 +56,21 @@ fn step<'a>(
     w: &mut [u32; 780],
     marks: &mut [u8; 131072],
 ) -> u32
-    requires sized { Sized f (length l0.now) (length l1.now) (length l2.now) (length l3.now) }
-    requires n_bound { (j + n + 8 ≤ f.rows) × (n ≤ 254) }
-    requires le_col { (3 ≤ col) × (col + 3 < f.cols) }
-    requires before { Before (maps_of l0.now l1.now l2.now l3.now f set th) j n col before a.old b.old c.old d.old p.old v.old w.old marks.old }
-    ensures { Before (maps_of l0.now l1.now l2.now l3.now f set th) j n (col + 1) result
+    requires n_bound { (j + n + 8 ≤ map.now.frame.rows) × (n ≤ 254) }
+    requires le_col { (3 ≤ col) × (col + 3 < map.now.frame.cols) }
+    requires before { Before (maps_in map.now) j n col before a.old b.old c.old d.old p.old v.old w.old marks.old }
+    ensures { Before (maps_in map.now) j n (col + 1) result
         a.new b.new c.new d.new p.new v.new w.new marks.new }
 {
-    let mid = col * f.rows + j + 3;
+    let rows = map.frame.rows;
+    let mid = col * rows + j + 3;
     let any = column(
-        l0,
-        l1,
-        l2,
-        l3,
-        mid - f.rows,
+        &map.levels,
+        mid - rows,
         mid,
-        mid + f.rows,
-        set,
-        th,
+        mid + rows,
+        map.set,
+        map.thresholds,
         n + 2,
         col % 3 * 260,
         a,
@@ -94,8 +85,8 @@ fn step<'a>(
         return any;
     }
     mark(
-        set,
-        th.ratio,
+        map.set,
+        map.thresholds.ratio,
         n,
         before,
         (col + 1) % 3 * 260,
@@ -115,23 +106,10 @@ fn step<'a>(
 }
 
 // Marks the block of n judged rows from the judged row j on.
-pub fn sweep<'a>(
-    l0: &'a [f32],
-    l1: &'a [f32],
-    l2: &'a [f32],
-    l3: &'a [f32],
-    f: Frame,
-    set: Set,
-    th: Thresholds,
-    j: usize,
-    n: usize,
-    marks: &mut [u8; 131072],
-)
-    requires sized { Sized f (length l0.now) (length l1.now) (length l2.now) (length l3.now) }
-    requires n_bound { (j + n + 8 ≤ f.rows) × (n ≤ 254) }
-    requires marks_len { length marks.old ≡ 131072 }
+pub fn sweep(map: &Map, j: usize, n: usize, marks: &mut [u8; 131072])
+    requires n_bound { (j + n + 8 ≤ map.now.frame.rows) × (n ≤ 254) }
     ensures { (length marks.new ≡ 131072)
-        × Ruled (maps_of l0.now l1.now l2.now l3.now f set th) j n (f.cols - 4) marks.new }
+        × Ruled (maps_in map.now) j n (map.now.frame.cols - 4) marks.new }
 {
     let mut a = [0.0f32; 780];
     let mut b = [0.0f32; 780];
@@ -141,12 +119,9 @@ pub fn sweep<'a>(
     let mut v = [0.0f32; 1560];
     let mut w = [0u32; 780];
     let mut before: u32 = 0;
-    let mut col: usize = 3;
-    while col + 3 < f.cols {
+    for col in 3..map.frame.cols.saturating_sub(3) {
         before = step(
-            l0, l1, l2, l3, f, set, th, j, n, col, before, &mut a, &mut b, &mut c, &mut d, &mut p,
-            &mut v, &mut w, marks,
+            map, j, n, col, before, &mut a, &mut b, &mut c, &mut d, &mut p, &mut v, &mut w, marks,
         );
-        col += 1;
     }
 }

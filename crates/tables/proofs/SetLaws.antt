@@ -1,5 +1,6 @@
 -- What a good set gives, what the reader accepts and refuses, and that set T is good.
-use mathlib.Core.Path.{◌≡◌, refl, sym, ap, ◌∙◌}
+use Rattle.std.specs.Prelude.{Result, Ok, Err}
+use mathlib.Core.Path.{◌≡◌, refl, sym, ◌∙◌}
 use mathlib.Core.Bool.{Bool, true, false, not, false≢true, ◌&&◌}
 use mathlib.Core.List.{List, [], ◌∷◌}
 use Prim.Native.Nat.{ℕ, zero, suc, ◌<◌}
@@ -13,12 +14,10 @@ use Rattle.float.specs.Small.{finite}
 use Rattle.float.specs.Num.{f0}
 use Rattle.float.proofs.Bools.{both, all_four, all_five}
 use Rattle.tables.specs.declared.Set.{Set}
-use Rattle.tables.specs.declared.SetRead.{SetRead}
 use Rattle.tables.specs.declared.Refusal.{Refusal}
 use Rattle.tables.specs.declared.Refusal.TheVariants.{BadSet}
-use Rattle.tables.specs.declared.Checked.TheVariants.{Fine, Bad}
 use Rattle.tables.specs.Set.{every, all_finite, all_under, rising, all_set, good, blank, set_of, spare_zero, good_record}
-use Rattle.tables.specs.Refusal.{number, refused_set, read_set_of}
+use Rattle.tables.specs.Refusal.{number, refused_set, read_set_of, read_or_blank}
 use Rattle.tables.specs.SetT.{values, sigmas_t, cubic_t, row, block_t, numbers_t, set_t}
 use Rattle.tables.proofs.Floats.{no_nan-above, above_positive}
 
@@ -96,7 +95,7 @@ module _ (s : Set) (g : good s ≡ true) where
 
 -- ---- the reader
 
-pub good-record_read : (b : List ℕ) → good_record b ≡ true → read_set_of b ≡ record { answer = Fine; set = set_of b }
+pub good-record_read : (b : List ℕ) → good_record b ≡ true → read_set_of b ≡ Ok (set_of b)
 unfolding read_set_of
 good-record_read b e = rw e
 
@@ -112,16 +111,16 @@ pub wrong_length-refused : (b : List ℕ) → (length b ≡ 528 → ⊥) → rea
 wrong_length-refused b h = bad-record-refused b (wrong_length b h)
 
 -- a refusal comes of a bad record alone
-pub refused-only-bad : (b : List ℕ) (w : Refusal) → (read_set_of b).answer ≡ Bad w → good_record b ≡ false
+pub refused-only-bad : (b : List ℕ) (w : Refusal) → read_set_of b ≡ Err w → good_record b ≡ false
 refused-only-bad b w e = go (good_record b) refl
   where
     go : (t : Bool) → good_record b ≡ t → good_record b ≡ false
-    go true t = let z : Fine ≡ Bad w = sym (ap (λ (r : SetRead). r.answer) (good-record_read b t)) ∙ e in cc
+    go true t = let z : ◌≡◌ {A = Result Set Refusal} (Ok (set_of b)) (Err w) = sym (good-record_read b t) ∙ e in cc
     go false t = t
 
-pub refusal-is_four : (b : List ℕ) (w : Refusal) → (read_set_of b).answer ≡ Bad w → number w ≡ 4
+pub refusal-is_four : (b : List ℕ) (w : Refusal) → read_set_of b ≡ Err w → number w ≡ 4
 unfolding number refused_set
-refusal-is_four b w e = let z : Bad BadSet ≡ Bad w = sym (ap (λ (r : SetRead). r.answer) (bad-record-refused b (refused-only-bad b w e))) ∙ e in cc
+refusal-is_four b w e = let z : ◌≡◌ {A = Result Set Refusal} (Err BadSet) (Err w) = sym (bad-record-refused b (refused-only-bad b w e)) ∙ e in cc
 
 -- ---- set T
 
@@ -141,13 +140,27 @@ unfolding good_record
 good-set_of b e = (both (eqb (length b) 528 && spare_zero b) (good (set_of b)) e).1
 
 -- the set that is read is good exactly when the record is
-pub read_good : (b : List ℕ) → good (read_set_of b).set ≡ good_record b
-unfolding refused_set
+pub read_good : (b : List ℕ) → good (read_or_blank b) ≡ good_record b
+unfolding read_or_blank
 read_good b = go (good_record b) refl
   where
-    go : (t : Bool) → good_record b ≡ t → good (read_set_of b).set ≡ good_record b
-    go true e = ap (λ (r : SetRead). good r.set) (good-record_read b e) ∙ (good-set_of b e ∙ sym e)
-    go false e = ap (λ (r : SetRead). good r.set) (bad-record-refused b e) ∙ (blank-bad ∙ sym e)
+    go : (t : Bool) → good_record b ≡ t → good (read_or_blank b) ≡ good_record b
+    go true e = rw e (good-set_of b e)
+    go false e = rw e blank-bad
+
+-- a set that is read without a refusal is the record's
+pub read-held : (b : List ℕ) (s : Set) → read_set_of b ≡ Ok s → read_or_blank b ≡ s
+unfolding read_or_blank refused_set
+read-held b s e = go (good_record b) refl
+  where
+    go : (t : Bool) → good_record b ≡ t → read_or_blank b ≡ s
+    go true t = let z : ◌≡◌ {A = Result Set Refusal} (Ok (set_of b)) (Ok s) = sym (good-record_read b t) ∙ e in let y : set_of b ≡ s = cc in rw t y
+    go false t = let z : ◌≡◌ {A = Result Set Refusal} (Err BadSet) (Ok s) = sym (bad-record-refused b t) ∙ e in cc
+
+-- and that of a refused record is blank
+pub refused-blank : (b : List ℕ) (w : Refusal) → read_set_of b ≡ Err w → read_or_blank b ≡ blank
+unfolding read_or_blank
+refused-blank b w e = rw (refused-only-bad b w e)
 
 -- a good record is 528 bytes long
 pub good-long : (b : List ℕ) → good_record b ≡ true → length b ≡ 528

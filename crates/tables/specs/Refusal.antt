@@ -1,13 +1,10 @@
 -- The refusals and their numbers, checks in an order, and what the reader of a set answers. Definitions only.
-use Rattle.std.specs.Prelude.{ℕ, zero, suc, ◌<◌, List, [], ◌∷◌, Bool, true, false, cond, not, ◌||◌, ◌≡◌, ltb}
+use Rattle.std.specs.Prelude.{ℕ, zero, suc, ◌<◌, List, [], ◌∷◌, Bool, true, false, cond, not, ◌||◌, ◌≡◌, ltb, Result, Ok, Err, ⊤}
 use Rattle.std.specs.Float.Ieee.{is_nan}
 use Rattle.tables.specs.declared.Refusal.{Refusal}
 use Rattle.tables.specs.declared.Refusal.TheVariants.{Size, Level, Octave, BadSet, Records, Room, NoSize, Thresholds, Past, Scene, NotYours, Count, NoSpot}
 use Rattle.tables.specs.declared.Missing.{Missing}
 use Rattle.tables.specs.declared.Missing.TheVariants.{Polarity, Range}
-use Rattle.tables.specs.declared.Checked.{Checked}
-use Rattle.tables.specs.declared.Checked.TheVariants.{Fine, Bad}
-use Rattle.tables.specs.declared.SetRead.{SetRead}
 use Rattle.tables.specs.declared.Set.{Set}
 use Rattle.tables.specs.declared.Thresholds as limits
 use Rattle.tables.specs.Set.{good, set_of, good_record, blank}
@@ -50,8 +47,8 @@ value Count = 0
 value NoSpot = 0
 
 -- refuse r where the test holds, and look further otherwise
-unfoldable pub unless : Bool → Refusal → Checked → Checked
-unless true r next = Bad r
+unfoldable pub unless : Bool → Refusal → Result ⊤ Refusal → Result ⊤ Refusal
+unless true r next = Err r
 unless false r next = next
 
 -- ---- checks in an order
@@ -67,21 +64,21 @@ abbrev pub ◌when◌ : Refusal → Bool → Check
 r when b = record { refusal = r; holds = b }
 
 -- of an entry's checks, in its order, the first that holds is answered; fine where none does
-unfoldable pub first_of : List Check → Checked
-first_of [] = Fine
+unfoldable pub first_of : List Check → Result ⊤ Refusal
+first_of [] = Ok tt
 first_of (c ∷ cs) = unless c.holds c.refusal (first_of cs)
 
 -- what the check at the place k says by itself, places counted from 0: past the end, fine
-unfoldable pub said_at : List Check → ℕ → Checked
-said_at [] k = Fine
-said_at (c ∷ cs) zero = unless c.holds c.refusal Fine
+unfoldable pub said_at : List Check → ℕ → Result ⊤ Refusal
+said_at [] k = Ok tt
+said_at (c ∷ cs) zero = unless c.holds c.refusal (Ok tt)
 said_at (c ∷ cs) (suc k) = said_at cs k
 
 -- r is refused by the check at some place, and no check at an earlier place holds
 pub record First (cs : List Check) (r : Refusal) : Type 0 where
   pub place : ℕ
-  pub holds : said_at cs place ≡ Bad r
-  pub earlier : (k : ℕ) → k < place → said_at cs k ≡ Fine
+  pub holds : said_at cs place ≡ Err r
+  pub earlier : (k : ℕ) → k < place → said_at cs k ≡ Ok tt
 
 -- ---- the checks that entries share
 
@@ -111,10 +108,14 @@ set_check s = BadSet when not (good s)
 
 -- ---- the reader of a set
 
--- the answer to a bad record: refusal 4, and a set of zeros beside it
-unfoldable pub refused_set : SetRead
-refused_set = record { answer = Bad BadSet; set = blank }
+-- the answer to a bad record: refusal 4
+unfoldable pub refused_set : Result Set Refusal
+refused_set = Err BadSet
 
 -- the set of a good record; otherwise the refusal
-unfoldable pub read_set_of : List ℕ → SetRead
-read_set_of b = cond (good_record b) (record { answer = Fine; set = set_of b }) refused_set
+unfoldable pub read_set_of : List ℕ → Result Set Refusal
+read_set_of b = cond (good_record b) (Ok (set_of b)) refused_set
+
+-- the set that is read; of a refused record, the set of zeros
+unfoldable pub read_or_blank : List ℕ → Set
+read_or_blank b = cond (good_record b) (set_of b) blank

@@ -8,28 +8,14 @@ use crate::Set;
 pub fn all_finite(list: &[f32]) -> bool
     ensures { result ≡ all_finite list.now }
 {
-    let mut i: usize = 0;
-    while i < list.len() {
-        if !float::is_finite(list[i]) {
-            return false;
-        }
-        i += 1;
-    }
-    true
+    list.iter().all(|x| float::is_finite(*x))
 }
 
 // Whether every byte of the list is under n.
 pub fn all_under(list: &[u8], n: u8) -> bool
     ensures { result ≡ all_under n list.now }
 {
-    let mut i: usize = 0;
-    while i < list.len() {
-        if n <= list[i] {
-            return false;
-        }
-        i += 1;
-    }
-    true
+    list.iter().all(|x| *x < n)
 }
 
 // Whether the sigmas are positive and strictly rising.

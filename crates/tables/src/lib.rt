@@ -3,7 +3,7 @@
 
 ghost use Rattle.std.specs.Prelude.{◌≡◌};
 ghost use Rattle.tables.specs.Set.{good};
-ghost use Rattle.tables.specs.Refusal.{any_nan, read_set_of};
+ghost use Rattle.tables.specs.Refusal.{any_nan, read_set_of, read_or_blank};
 
 mod good;
 mod limits;
@@ -36,14 +36,14 @@ pub struct Thresholds {
 }
 
 // Why a spot has no size: at its place the curve is not one of its polarity or not finite, or its step leads out of the fitted range.
-#[derive(Clone, Copy)]
+#[derive(Debug, Clone, Copy, PartialEq, Eq)]
 pub enum Missing {
     Polarity,
     Range,
 }
 
 // Why a call was refused; specs/Refusal.antt gives each its number.
-#[derive(Clone, Copy)]
+#[derive(Debug, Clone, Copy, PartialEq, Eq)]
 pub enum Refusal {
     Size,
     Level,
@@ -58,20 +58,6 @@ pub enum Refusal {
     NotYours,
     Count,
     NoSpot,
-}
-
-// The outcome of a check.
-#[derive(Clone, Copy)]
-pub enum Checked {
-    Fine,
-    Bad(Refusal),
-}
-
-// What the reader of a set answers: where the record is refused, the set is all zeros.
-#[derive(Clone, Copy)]
-pub struct SetRead {
-    pub answer: Checked,
-    pub set: Set,
 }
 
 // Whether the set is good.
@@ -92,22 +78,28 @@ pub fn has_nan(t: Thresholds) -> bool
 }
 
 // The set that a record holds, or the refusal of the record.
-pub fn read_set(bytes: &[u8]) -> SetRead
+pub fn read_set(bytes: &[u8]) -> Result<Set, Refusal>
     ensures { result ≡ read_set_of bytes.now }
 {
     if bytes.len() != 528 {
-        return reader::refused();
+        return Err(Refusal::BadSet);
     }
     if !reader::is_spare_zero(bytes) {
-        return reader::refused();
+        return Err(Refusal::BadSet);
     }
     let set = reader::set_of(bytes);
-    if is_good(set) {
-        SetRead {
-            answer: Checked::Fine,
-            set: set,
-        }
-    } else {
-        reader::refused()
+    if !is_good(set) {
+        return Err(Refusal::BadSet);
+    }
+    Ok(set)
+}
+
+// The set that a record holds; the set of zeros, which is not good, where the record is refused.
+pub fn read_or_blank(bytes: &[u8]) -> Set
+    ensures { result ≡ read_or_blank bytes.now }
+{
+    match read_set(bytes) {
+        Ok(set) => set,
+        Err(_) => reader::blank(),
     }
 }

@@ -1,9 +1,8 @@
 // The parts of a set's record, each by its place.
 ghost use Rattle.std.specs.Prelude.{◌≡◌, ◌≤◌, length, take, drop};
-ghost use Rattle.tables.specs.Set.{set_of, spare_zero};
-ghost use Rattle.tables.specs.Refusal.{refused_set};
+ghost use Rattle.tables.specs.Set.{blank, set_of, spare_zero};
 
-use crate::{Checked, Refusal, Set, SetRead};
+use crate::Set;
 
 // The nine sample-order bytes.
 fn order_of(bytes: &[u8]) -> [u8; 9]
@@ -11,11 +10,7 @@ fn order_of(bytes: &[u8]) -> [u8; 9]
     ensures { result ≡ take 9 (drop 516 bytes.now) }
 {
     let mut order = [0u8; 9];
-    let mut k: usize = 0;
-    while k < 9 {
-        order[k] = bytes[516 + k];
-        k += 1;
-    }
+    order.copy_from_slice(&bytes[516..525]);
     order
 }
 
@@ -53,19 +48,16 @@ pub fn is_spare_zero(bytes: &[u8]) -> bool
     (bytes[525] == 0) & (bytes[526] == 0) & (bytes[527] == 0)
 }
 
-// The answer to a bad record.
-pub fn refused() -> SetRead
-    ensures { result ≡ refused_set }
+// The set of zeros.
+pub fn blank() -> Set
+    ensures { result ≡ blank }
 {
-    SetRead {
-        answer: Checked::Bad(Refusal::BadSet),
-        set: Set {
-            sigmas: [0.0; 4],
-            scale: [0.0; 12],
-            geometry: [0.0; 12],
-            spatial: [0.0; 90],
-            numbers: [0.0; 11],
-            order: [0; 9],
-        },
+    Set {
+        sigmas: [0.0; 4],
+        scale: [0.0; 12],
+        geometry: [0.0; 12],
+        spatial: [0.0; 90],
+        numbers: [0.0; 11],
+        order: [0; 9],
     }
 }

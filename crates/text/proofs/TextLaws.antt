@@ -7,7 +7,7 @@ use mathlib.Core.Bool.{Bool, true, false, cond}
 use mathlib.Core.Path.{◌≡◌, refl, sym, ap, ◌∙◌}
 use mathlib.Core.List.{List, [], ◌∷◌, ◌++◌, append_assoc, append-nil}
 use lib.ListN.{length, get_or, take, drop, set, length-append, length-take, length-drop, length-set}
-use lib.Seq.{take-suc, take-suc-set, get_or-drop, drop-drop, take_at, drop_at}
+use lib.Seq.{take-suc, take-suc-set, drop-drop, take_at, drop_at}
 use lib.Dec.{ltb}
 use borrow.Author.Tests.{lt-ltb, le-ltb, ltb-true, ltb-false}
 use Rattle.io.specs.Digits.{last_digits, IsDigitCount}
@@ -45,10 +45,8 @@ hex_of-append [] b = refl
 hex_of-append (x ∷ a) b = rw (hex_of-append a b)
 
 -- one byte more
-pub hex_next : (b : List ℕ) (from k : ℕ) → from + k < length b → hex_of (take k (drop from b)) ++ hex_of (get_or b (from + k) 0 ∷ []) ≡ hex_of (take (k + 1) (drop from b))
-hex_next b from k h =
-    let l : k < length (drop from b) = simp length-drop (omega arith) in
-    rw (add-one, take-suc (drop from b) k 0 l, get_or-drop, hex_of-append)
+pub hex_next : (b : List ℕ) (k : ℕ) → k < length b → hex_of (take k b) ++ hex_of (get_or b k 0 ∷ []) ≡ hex_of (take (k + 1) b)
+hex_next b k h = rw (add-one, take-suc b k 0 h, hex_of-append)
 
 -- ---- lines
 

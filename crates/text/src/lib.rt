@@ -1,7 +1,7 @@
 // Numbers and records as text, each from a place of the buffer on; each answers the next place.
 #![tactic(auto)]
 
-ghost use Rattle.std.specs.Prelude.{◌≡◌, [], ◌∷◌, ◌+◌, ◌*◌, ◌<◌, ◌≤◌, length, take, drop};
+ghost use Rattle.std.specs.Prelude.{◌≡◌, [], ◌∷◌, ◌++◌, ◌+◌, ◌*◌, ◌<◌, ◌≤◌, length, take, drop};
 ghost use Rattle.record.specs.Layout.{spot_width};
 ghost use Rattle.text.specs.Text.{line_width, hex_digit, hex_of, line_of, lines_in, decimal, found_line, refused_line, Wrote};
 
@@ -21,7 +21,7 @@ fn hex_digit(d: u8) -> u8
     requires { d < 16 }
     ensures { result ≡ hex_digit d }
 {
-    if d < 10 { 48 + d } else { 87 + d }
+    if d < 10 { b'0' + d } else { b'a' + (d - 10) }
 }
 
 // A byte as two hex digits, the high one first.
@@ -43,13 +43,10 @@ fn put_line(out: &mut [u8], at: usize, records: &[u8], i: usize) -> usize
 {
     let from = i * SPOT_WIDTH;
     let mut next = at;
-    let mut k: usize = 0;
-    while k < SPOT_WIDTH {
-        let byte = records[from + k];
-        next = put_hex(out, next, byte);
-        k += 1;
+    for byte in &records[from..from + SPOT_WIDTH] {
+        next = put_hex(out, next, *byte);
     }
-    push(out, next, 10)
+    push(out, next, b'\n')
 }
 
 // The first n records, a line for each.
@@ -60,10 +57,8 @@ pub fn put_lines(out: &mut [u8], at: usize, records: &[u8], n: usize) -> usize
     ensures value { result ≡ at + line_width * n }
 {
     let mut next = at;
-    let mut i: usize = 0;
-    while i < n {
+    for i in 0..n {
         next = put_line(out, next, records, i);
-        i += 1;
     }
     next
 }
@@ -73,14 +68,9 @@ fn put_text(out: &mut [u8], at: usize, text: &[u8]) -> usize
     requires { at + length text.now ≤ length out.old }
     ensures { Wrote out.old out.new at result text.now }
 {
-    let mut next = at;
-    let mut k: usize = 0;
-    while k < text.len() {
-        let byte = text[k];
-        next = push(out, next, byte);
-        k += 1;
-    }
-    next
+    let end = at + text.len();
+    out[at..end].copy_from_slice(text);
+    end
 }
 
 // The decimal digits of n.
@@ -94,15 +84,22 @@ fn put_decimal(out: &mut [u8], at: usize, n: usize) -> usize
     put_text(out, at, &digits[..count])
 }
 
+// A line of a word and a number.
+fn put_counted(out: &mut [u8], at: usize, word: &[u8], n: usize) -> usize
+    requires { at + length word.now + 21 ≤ length out.old }
+    ensures { Wrote out.old out.new at result (word.now ++ (decimal n ++ (10 ∷ []))) }
+{
+    let number = put_text(out, at, word);
+    let end = put_decimal(out, number, n);
+    push(out, end, b'\n')
+}
+
 // The line `found N`.
 pub fn put_found(out: &mut [u8], at: usize, n: usize) -> usize
     requires { at + 27 ≤ length out.old }
     ensures { Wrote out.old out.new at result (found_line n) }
 {
-    let word = [102u8, 111, 117, 110, 100, 32];
-    let number = put_text(out, at, &word);
-    let end = put_decimal(out, number, n);
-    push(out, end, 10)
+    put_counted(out, at, b"found ", n)
 }
 
 // The line `refused K`.
@@ -110,8 +107,5 @@ pub fn put_refused(out: &mut [u8], at: usize, number: usize) -> usize
     requires { at + 29 ≤ length out.old }
     ensures { Wrote out.old out.new at result (refused_line number) }
 {
-    let word = [114u8, 101, 102, 117, 115, 101, 100, 32];
-    let digits = put_text(out, at, &word);
-    let end = put_decimal(out, digits, number);
-    push(out, end, 10)
+    put_counted(out, at, b"refused ", number)
 }

@@ -1,4 +1,5 @@
 -- Laws of a tile's records in the output: laid at the end of their place, read back, and sized in place. Assumes nothing.
+use Rattle.std.specs.Prelude.{Some, None}
 use Prim.Native.Nat.{ℕ, zero, suc, ◌+◌, ◌-◌, ◌*◌, ◌/◌, ◌≤◌, ◌<◌}
 use native.Mathlib.Omega.{arith}
 use mathlib.Core.Path.{◌≡◌, refl, sym, ap, ◌∙◌}
@@ -22,7 +23,6 @@ use Rattle.words.proofs.Parts.{sets_over}
 use Rattle.sized.proofs.HomeLaws.{home_placed}
 use Rattle.tile.specs.Numbered.{numbered_width, tile_bytes}
 use Rattle.tile.specs.Tile.{Small, found_in, records_in, Stand, filling, fill_of, Fits}
-use Rattle.tile.specs.declared.Filled.TheVariants.{WholeTile, Full}
 use Rattle.tile.proofs.NumberedLaws.{length-tile_bytes}
 
 -- ---- records read back
@@ -81,7 +81,7 @@ module _ (s : Set) (th : Thresholds) (h w octave : ℕ) (l0 l1 l2 l3 : List Floa
   held : (k : ℕ) (r : Record) → StandsAt found k r → Held r
   held k r st = list_held maps r p.tall p.wide (record { place = k; there = st })
 
-  pub fill_full : (n : ℕ) → n ≡ length found → (length out - base) / numbered_width < n → filling Full out ≡ fill_of s i j found done out
+  pub fill_full : (n : ℕ) → n ≡ length found → (length out - base) / numbered_width < n → filling None out ≡ fill_of s i j found done out
   unfolding fill_of
   fill_full n e b = let l = q.lies in rw (lt-leb ((done + length found) * numbered_width) (length out) (omega arith))
 
@@ -106,7 +106,7 @@ module _ (s : Set) (th : Thresholds) (h w octave : ℕ) (l0 l1 l2 l3 : List Floa
                 (ap (readable h w) (there k d b) ∙ join_accepts maps (get_or found k d) (record { place = k; there = stands_at found k d (omega arith) }));
           }
 
-      pub fill_whole : (o2 : List ℕ) → o2 ≡ sets o1 base (tile_bytes s i j (records_in o1 (base + 16 * n) n)) → filling (WholeTile (done + n)) o2 ≡ fill_of s i j found done out
+      pub fill_whole : (o2 : List ℕ) → o2 ≡ sets o1 base (tile_bytes s i j (records_in o1 (base + 16 * n) n)) → filling (Some (done + n)) o2 ≡ fill_of s i j found done out
       unfolding fill_of
       fill_whole o2 f =
           let size = length-bytes_of found in

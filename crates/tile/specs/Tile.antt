@@ -1,5 +1,5 @@
 -- What one tile answers, and what it leaves in the output; what its functions ask for. Definitions only.
-use Rattle.std.specs.Prelude.{ℕ, zero, suc, ◌+◌, ◌*◌, ◌^◌, ◌≤◌, ◌<◌, ◌≡◌, true, false, cond, List, [], ◌∷◌, ◌++◌, length, take, leb, Float}
+use Rattle.std.specs.Prelude.{ℕ, zero, suc, ◌+◌, ◌*◌, ◌^◌, ◌≤◌, ◌<◌, ◌≡◌, true, false, cond, List, [], ◌∷◌, ◌++◌, length, take, leb, Float, Option, Some, None}
 use Rattle.std.proofs.lemmas.List.Edits.{sets}
 use Rattle.tables.specs.declared.Set.{Set}
 use Rattle.tables.specs.declared.Thresholds.{Thresholds}
@@ -11,8 +11,6 @@ use Rattle.sized.specs.Sized.{Placed}
 use Rattle.samples.specs.Level.{maps_of}
 use Rattle.detect.specs.Due.{due}
 use Rattle.tile.specs.Numbered.{numbered_width, tile_bytes}
-use Rattle.tile.specs.declared.Filled.{Filled}
-use Rattle.tile.specs.declared.Filled.TheVariants.{WholeTile, Full}
 
 -- ---- a tile that the detector takes
 
@@ -41,18 +39,18 @@ pub record Holds (rs : List Record) (n : ℕ) (held : List ℕ) : Type 0 where
 
 -- what a tile answers, and the output after it
 pub record Filling : Type 0 where
-  pub answer : Filled
+  pub answer : Option ℕ
   pub out : List ℕ
 
 -- these two, given one by one
-abbrev pub filling : Filled → List ℕ → Filling
+abbrev pub filling : Option ℕ → List ℕ → Filling
 filling a out = record { answer = a; out = out }
 
 -- the records of the tile (i, j) follow done others where all of them have room; else nothing is written
 unfoldable pub fill_of : Set → ℕ → ℕ → List Record → ℕ → List ℕ → Filling
 fill_of s i j rs done out =
     cond (leb ((done + length rs) * numbered_width) (length out))
-    (filling (WholeTile (done + length rs)) (sets out (done * numbered_width) (tile_bytes s i j rs))) (filling Full out)
+    (filling (Some (done + length rs)) (sets out (done * numbered_width) (tile_bytes s i j rs))) (filling None out)
 
 -- the tile's numbers are u16, and the done records lie in the output
 pub record Fits (i j done room : ℕ) : Type 0 where

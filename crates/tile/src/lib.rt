@@ -15,14 +15,7 @@ pub const NUMBERED_WIDTH: usize = 64;
 // How many bytes a numbered record has more than a spot's.
 const MORE: usize = 16;
 
-// What a tile answers: how many records are now written, its own counted; or that they have no room.
-#[derive(Clone, Copy)]
-pub enum Filled {
-    WholeTile(usize),
-    Full,
-}
-
-// What a tile lists, sized and numbered, after done records: all of it, or nothing.
+// What a tile lists, sized and numbered, after done records: answers how many are now written, its own counted, or `None` where they have no room.
 pub fn fill<'a>(
     set: Set,
     th: Thresholds,
@@ -37,7 +30,7 @@ pub fn fill<'a>(
     j: usize,
     out: &mut [u8],
     done: usize,
-) -> Filled
+) -> Option<usize>
     requires small { Small set th h w octave (length t0.now) (length t1.now) (length t2.now) (length t3.now) }
     requires fits { Fits i j done (length out.old) }
     ensures { filling result out.new
@@ -48,7 +41,7 @@ pub fn fill<'a>(
     let base = done * NUMBERED_WIDTH;
     let free = (out.len() - base) / NUMBERED_WIDTH;
     if free < n {
-        return Filled::Full;
+        return None;
     }
     list::lay(
         set,
@@ -66,5 +59,5 @@ pub fn fill<'a>(
         n,
     );
     place::place_all(set, i, j, out, base, n);
-    Filled::WholeTile(done + n)
+    Some(done + n)
 }

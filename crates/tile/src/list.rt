@@ -4,7 +4,6 @@ ghost use Rattle.std.proofs.lemmas.List.Edits.{sets};
 ghost use Rattle.record.specs.Layout.{spot_width, bytes_of};
 ghost use Rattle.tile.specs.Tile.{Small, found_in, Holds};
 
-use detect::Answer;
 use record::SPOT_WIDTH;
 use tables::{Set, Thresholds};
 
@@ -28,11 +27,7 @@ pub fn found<'a>(
     requires held_len { length held.old ≡ 131040 }
     ensures { Holds (found_in set th h w octave t0.now t1.now t2.now t3.now) result held.new }
 {
-    let told = detect::detect(set, th, h, w, octave, t0, t1, t2, t3, held);
-    match told {
-        Answer::Found(n) => n,
-        Answer::Refused(_) => 0,
-    }
+    detect::detect(set, th, h, w, octave, t0, t1, t2, t3, held).unwrap()
 }
 
 // A tile's n records are found again, into the bytes from at on.
@@ -57,7 +52,7 @@ fn find_again<'a>(
         ≡ sets out.old at (bytes_of (found_in set th h w octave t0.now t1.now t2.now t3.now)) }
 {
     let end = at + n * SPOT_WIDTH;
-    detect::detect(set, th, h, w, octave, t0, t1, t2, t3, &mut out[at..end]);
+    let _ = detect::detect(set, th, h, w, octave, t0, t1, t2, t3, &mut out[at..end]);
 }
 
 // A tile's n records go to the bytes from at on: from the room held, if it has them all.

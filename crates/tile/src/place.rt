@@ -26,8 +26,7 @@ pub fn place_all(set: Set, i: usize, j: usize, out: &mut [u8], base: usize, n: u
     requires { Stand i j out.old base n }
     ensures { out.new ≡ sets out.old base (tile_bytes set i j (records_in out.old (base + 16 * n) n)) }
 {
-    let mut k: usize = 0;
-    while k < n {
+    for k in 0..n {
         place_record(
             set,
             i,
@@ -36,6 +35,5 @@ pub fn place_all(set: Set, i: usize, j: usize, out: &mut [u8], base: usize, n: u
             base + MORE * n + SPOT_WIDTH * k,
             base + NUMBERED_WIDTH * k,
         );
-        k += 1;
     }
 }

@@ -9,11 +9,7 @@ fn copy_column(level: &[f32], p: usize, n: usize, out: &mut [f32], at: usize)
     requires n_in_bounds_2 { at + n ≤ length out.old }
     ensures { out.new ≡ sets out.old at (take n (drop p level.now)) }
 {
-    let mut r: usize = 0;
-    while r < n {
-        out[at + r] = level[p + r];
-        r += 1;
-    }
+    out[at..at + n].copy_from_slice(&level[p..p + n]);
 }
 
 // The h by w pixels of a level of rows rows that begin at (r0, c0) go to the buffer's start.
@@ -29,9 +25,7 @@ pub fn copy_tile(
     requires { Cut (length level.now) (length out.old) rows r0 c0 h w }
     ensures { out.new ≡ sets out.old 0 (tile_level level.now rows r0 c0 h w) }
 {
-    let mut c: usize = 0;
-    while c < w {
+    for c in 0..w {
         copy_column(level, (c0 + c) * rows + r0, h, out, c * h);
-        c += 1;
     }
 }

@@ -1,4 +1,5 @@
 -- Laws of one tile of a scene: its place, its copies, and what they list. Assumes nothing.
+use Rattle.std.specs.Prelude.{Option, Some, None}
 use Prim.Native.Nat.{ℕ, ◌+◌, ◌*◌, ◌≤◌}
 use native.Mathlib.Nat.{mul-le-mul, mul-le-mul_right, mul_comm, le_trans}
 use native.Mathlib.Omega.{arith}
@@ -19,8 +20,6 @@ use Rattle.tiles.proofs.TilesLaws.{on_side_lem, tile-most}
 use Rattle.tiles.proofs.CopyLaws.{copy_long}
 use Rattle.tile.specs.Numbered.{numbered_width, tile_bytes}
 use Rattle.tile.specs.Tile.{Small, found_in, Filling, filling, fill_of, Fits}
-use Rattle.tile.specs.declared.Filled.{Filled}
-use Rattle.tile.specs.declared.Filled.TheVariants.{WholeTile, Full}
 use Rattle.scene_checks.specs.Checks.{tile_room, SceneIn}
 use Rattle.turn.specs.Turn.{front, scene_maps, Turn, Cuts, Copied, Lent, TileAfter}
 
@@ -45,11 +44,11 @@ lent_small {s} {th} {h} {w} t0 t1 t2 t3 p = record {
 }
 
 -- a tile leaves the output as long as it was
-fill_length : (s : Set) (i j : ℕ) (rs : List Record) (done : ℕ) (out out' : List ℕ) (r : Filled) → filling r out' ≡ fill_of s i j rs done out → length out' ≡ length out
+fill_length : (s : Set) (i j : ℕ) (rs : List Record) (done : ℕ) (out out' : List ℕ) (r : Option ℕ) → filling r out' ≡ fill_of s i j rs done out → length out' ≡ length out
 unfolding fill_of
 fill_length s i j rs done out out' r e = ap (λ (x : Filling). length x.out) e ∙ go (leb ((done + length rs) * numbered_width) (length out))
   where
-    go : (b : Bool) → length (cond b (filling (WholeTile (done + length rs)) (sets out (done * numbered_width) (tile_bytes s i j rs))) (filling Full out)).out ≡ length out
+    go : (b : Bool) → length (cond b (filling (Some (done + length rs)) (sets out (done * numbered_width) (tile_bytes s i j rs))) (filling None out)).out ≡ length out
     go true = length-sets out (done * numbered_width) (tile_bytes s i j rs)
     go false = refl
 
@@ -134,7 +133,7 @@ module _ (s : Set) (th : Thresholds) (rows cols octave : ℕ) (l0 l1 l2 l3 t0 t1
   -- what the slices are after the copies: a tile that may be judged, and what it then lists is the tile's own list
   pub record Ready (t0' t1' t2' t3' : List Float) (h' w' : ℕ) : Type 0 where
     pub lends : Lent s th h' w' octave (length t0') (length t1') (length t2') (length t3')
-    pub tile-after : (r : Filled) (out' : List ℕ)
+    pub tile-after : (r : Option ℕ) (out' : List ℕ)
         → filling r out' ≡ fill_of s i j (found_in s th h' w' octave (take (h' * w') t0') (take (h' * w') t1') (take (h' * w') t2') (take (h' * w') t3')) done out
         → TileAfter (scene_maps s th rows cols octave l0 l1 l2 l3) i j done t0 t1 t2 t3 t0' t1' t2' t3' out out' r
 

@@ -1,5 +1,5 @@
 -- What the functions of a scene ask for, and what one tile leaves. Definitions only, inside.
-use Rattle.std.specs.Prelude.{ℕ, ◌*◌, ◌≤◌, ◌<◌, ◌≡◌, true, false, List, ◌++◌, length, drop, Float}
+use Rattle.std.specs.Prelude.{ℕ, ◌*◌, ◌≤◌, ◌<◌, ◌≡◌, true, false, List, ◌++◌, length, drop, Float, Option}
 use Rattle.std.proofs.lemmas.List.Edits.{sets}
 use Rattle.tables.specs.declared.Set.{Set}
 use Rattle.tables.specs.declared.Thresholds.{Thresholds}
@@ -11,7 +11,6 @@ use Rattle.tiles.specs.Tiles.{tile_step, tiles_of}
 use Rattle.tiles.specs.Copy.{tile_level, Cut}
 use Rattle.tile.specs.Numbered.{numbered_width}
 use Rattle.tile.specs.Tile.{filling, fill_of}
-use Rattle.tile.specs.declared.Filled.{Filled}
 use Rattle.turn.specs.Tiled.{tile_copy, tile_maps}
 
 -- xs at the front, and what lies past them is kept
@@ -57,7 +56,7 @@ pub record Lent (s : Set) (th : Thresholds) (h w octave t0 t1 t2 t3 : ℕ) : Typ
   pub fits3 : h * w ≤ t3
 
 -- what one tile leaves
-pub record TileAfter (m : Maps) (i j done : ℕ) (t0 t1 t2 t3 t0' t1' t2' t3' : List Float) (out out' : List ℕ) (r : Filled) : Type 0 where
+pub record TileAfter (m : Maps) (i j done : ℕ) (t0 t1 t2 t3 t0' t1' t2' t3' : List Float) (out out' : List ℕ) (r : Option ℕ) : Type 0 where
   pub left0 : t0' ≡ front (tile_copy tile_step m.frame i j m.l0) t0
   pub left1 : t1' ≡ front (tile_copy tile_step m.frame i j m.l1) t1
   pub left2 : t2' ≡ front (tile_copy tile_step m.frame i j m.l2) t2

@@ -7,7 +7,6 @@ ghost use Rattle.scene_checks.specs.Checks.{SceneIn};
 ghost use Rattle.turn.specs.Turn.{scene_maps, Turn, Cuts, Copied, Lent, TileAfter};
 
 use tables::{Set, Thresholds};
-use tile::Filled;
 use tiles::copy::copy_tile;
 
 // A tile's copies of the four levels.
@@ -52,7 +51,7 @@ fn list_copies<'a>(
     j: usize,
     out: &mut [u8],
     done: usize,
-) -> Filled
+) -> Option<usize>
     requires lent { Lent set th h w octave (length t0.now) (length t1.now) (length t2.now) (length t3.now) }
     requires fits { Fits i j done (length out.old) }
     ensures { filling result out.new ≡ fill_of set i j (found_in set th h w octave
@@ -95,7 +94,7 @@ pub fn turn<'a>(
     t3: &mut [f32],
     out: &mut [u8],
     done: usize,
-) -> Filled
+) -> Option<usize>
     requires scene_in { SceneIn set th rows cols octave (length l0.now) (length l1.now) (length l2.now) (length l3.now)
         (length t0.old) (length t1.old) (length t2.old) (length t3.old) }
     requires turn { Turn rows cols i j done (length out.old) }

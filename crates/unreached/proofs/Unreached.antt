@@ -1,4 +1,5 @@
 -- Of the statistic's four causes the last has no input, and the second only its first part: a quotient. For any sigmas and samples. Assumes nothing.
+use Rattle.std.specs.Prelude.{Err}
 use native.Mathlib.Omega.{arith}
 use mathlib.Core.Path.{◌≡◌, refl, sym, ◌∙◌}
 use mathlib.Core.List.{List}
@@ -9,7 +10,6 @@ use Rattle.profile.specs.Four.{squares_of, quotients_of, all_usable}
 use Rattle.profile.specs.Profile.{statistic_by}
 use Rattle.profile.specs.Tests.{passes, FirstFails}
 use Rattle.profile.specs.Causes.{scaled_roots, roots_test, slope_of, line_test, off_energy, energy_test, tests_by, place_of}
-use Rattle.profile.specs.declared.Statistic.TheVariants.{Absent}
 use Rattle.profile.specs.declared.Absence.{Absence}
 use Rattle.profile.specs.declared.Absence.TheVariants.{Samples, Quotients, Line, Energy}
 use Rattle.profile.proofs.ZeroSign.{statistic-same}
@@ -47,17 +47,17 @@ module _ (sigmas l : List Float) where
 
   module _ (p : Prims) (allowed : Allowed p) where
     -- so no statistic is absent for its energies
-    pub never_energy : statistic_by p sigmas l ≡ Absent Energy → ⊥
+    pub never_energy : statistic_by p sigmas l ≡ Err Energy → ⊥
     unfolding place_of
     never_energy e = never_fourth (cause-is-first ours sigmas l Energy (sym (statistic-same p allowed sigmas l) ∙ e))
 
     -- and one that is absent for its quotients or their roots has a quotient that can't be used
-    pub quotient_unusable : statistic_by p sigmas l ≡ Absent Quotients → all_usable quotients ≡ false
+    pub quotient_unusable : statistic_by p sigmas l ≡ Err Quotients → all_usable quotients ≡ false
     unfolding place_of
     quotient_unusable e = some_quotient (cause-is-first ours sigmas l Quotients (sym (statistic-same p allowed sigmas l) ∙ e))
 
     -- a cause that is given is one of the first three
-    pub cause-reached : (w : Absence) → statistic_by p sigmas l ≡ Absent w → reached w ≡ true
+    pub cause-reached : (w : Absence) → statistic_by p sigmas l ≡ Err w → reached w ≡ true
     unfolding reached
     cause-reached Samples e = refl
     cause-reached Quotients e = refl

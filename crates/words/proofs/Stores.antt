@@ -17,13 +17,6 @@ sets-append (x ∷ a) b l i = rw (add-suc, ← suc-add) (sets-append a b (set l 
 pub two_stores : (l : List ℕ) (i a b : ℕ) → set (set l i a) (i + 1) b ≡ sets l i (a ∷ b ∷ [])
 two_stores l i a b = let e : i + 1 ≡ suc i = omega arith in rw e
 
-pub four_stores : (l : List ℕ) (i a b c d : ℕ) → set (set (set (set l i a) (i + 1) b) (i + 2) c) (i + 3) d ≡ sets l i (a ∷ b ∷ c ∷ d ∷ [])
-four_stores l i a b c d =
-    let e1 : i + 1 ≡ suc i = omega arith in
-    let e2 : i + 2 ≡ suc (suc i) = omega arith in
-    let e3 : i + 3 ≡ suc (suc (suc i)) = omega arith in
-    cc
-
 -- one element more, stored in its place
 pub filled_next : {A : Type 0} (out front : List A) (k : ℕ) (v : A) → k < length out → take k out ≡ front → take (k + 1) (set out k v) ≡ front ++ (v ∷ [])
 filled_next out front k v h e = rw (add-one, take-suc-set, e)

@@ -32,10 +32,7 @@ pub fn put_bytes(out: &mut [u8], at: usize, a: u8, b: u8, c: u8, d: u8)
     requires { at + 4 ≤ length out.old }
     ensures { out.new ≡ sets out.old at (a ∷ b ∷ c ∷ d ∷ []) }
 {
-    out[at] = a;
-    out[at + 1] = b;
-    out[at + 2] = c;
-    out[at + 3] = d;
+    put_first(out, at, &[a, b, c, d], 4);
 }
 
 // A u16's two bytes from the byte at on, the lower first.
@@ -44,8 +41,7 @@ pub fn put_half(out: &mut [u8], at: usize, v: usize)
     requires v_bound { v < 2 ^ 16 }
     ensures { out.new ≡ sets out.old at (half_bytes v) }
 {
-    out[at] = (v % 256) as u8;
-    out[at + 1] = (v / 256) as u8;
+    put_first(out, at, &(v as u16).to_le_bytes(), 2);
 }
 
 // The word's four bytes from the byte at on, the lowest first.
@@ -53,14 +49,7 @@ pub fn put_word(out: &mut [u8], at: usize, v: u32)
     requires { at + 4 ≤ length out.old }
     ensures { out.new ≡ sets out.old at (word_bytes v) }
 {
-    put_bytes(
-        out,
-        at,
-        (v % 256) as u8,
-        (v / 256 % 256) as u8,
-        (v / 65536 % 256) as u8,
-        (v / 16777216 % 256) as u8,
-    );
+    put_first(out, at, &v.to_le_bytes(), 4);
 }
 
 // The float's four bytes from the byte at on.
@@ -77,28 +66,17 @@ pub fn put_first(out: &mut [u8], at: usize, s: &[u8], n: usize)
     requires n_in_bounds_2 { at + n ≤ length out.old }
     ensures { out.new ≡ sets out.old at (take n s.now) }
 {
-    let mut k: usize = 0;
-    while k < n {
-        out[at + k] = s[k];
-        k += 1;
-    }
+    out[at..at + n].copy_from_slice(&s[..n]);
 }
 
 // ---- reading
-
-// The byte as a word.
-fn wide(x: u8) -> u32
-    ensures { (result ≡ x) × (result < 256) }
-{
-    x as u32
-}
 
 // The little-endian word that begins at the byte at.
 pub fn word_from(b: &[u8], at: usize) -> u32
     requires { at + 4 ≤ length b.now }
     ensures { result ≡ word_from b.now at }
 {
-    wide(b[at]) + 256 * wide(b[at + 1]) + 65536 * wide(b[at + 2]) + 16777216 * wide(b[at + 3])
+    u32::from_le_bytes([b[at], b[at + 1], b[at + 2], b[at + 3]])
 }
 
 // The float that begins at the byte at.
@@ -114,9 +92,7 @@ pub fn read_floats(bytes: &[u8], i: usize, out: &mut [f32])
     requires { 4 * (i + length out.old) ≤ length bytes.now }
     ensures { out.new ≡ floats_at (length out.old) bytes.now i }
 {
-    let mut k: usize = 0;
-    while k < out.len() {
+    for k in 0..out.len() {
         out[k] = float_from(bytes, 4 * (i + k));
-        k += 1;
     }
 }

@@ -1,4 +1,5 @@
 -- What a pixel's numbers keep where zeros are chosen otherwise: envelope, gate of the levels, band and band extreme.
+use Rattle.std.specs.Prelude.{Option, Some, None}
 use mathlib.Core.Path.{◌≡◌, refl, sym}
 use Prim.Native.Nat.{ℕ}
 use mathlib.Core.List.{List}
@@ -14,8 +15,6 @@ use Rattle.fit.specs.Envelope.{ends_by, put_low, put_high, turn_of, first_of, tu
 use Rattle.fit.specs.Band.{band_by, finite_cubic, sign_of, stationary_of, better_by, extreme_by}
 use Rattle.fit.specs.Owns.{owns_by}
 use Rattle.fit.specs.declared.Envelope.{Envelope}
-use Rattle.fit.specs.declared.Stationary.{Stationary}
-use Rattle.fit.specs.declared.Stationary.TheVariants.{At, Nowhere}
 use Rattle.fit.proofs.Agree.{above_zero, turn_off}
 use Rattle.zeros.specs.Steps.{EnvelopeNear, BandNear}
 use Rattle.zeros.proofs.NearLaws.{near_sym, near_trans, near, mul~, lt~, cond~, max~, min~, and~, above_equal}
@@ -90,11 +89,11 @@ module _ (p : Prims) (A : Allowed p) where
   unfolding band_by
   band~ g s = record { low = max_by~ band_cut same same; high = min_by~ band_cut same same }
 
-  better~ : (k : List Float) (sign : Float) {low low' high high' a a' : Float} (st : Stationary) → Near low low' → Near high high' → Near a a' →
+  better~ : (k : List Float) (sign : Float) {low low' high high' a a' : Float} (st : Option Float) → Near low low' → Near high high' → Near a a' →
       Near (better_by p k sign low high a st) (better_by ours k sign low' high' a' st)
   unfolding better_by
-  better~ k sign (At s) u v h = cond~ (and~ (lt~ u same) (lt~ same v)) (max_by~ turning_point h same) h
-  better~ k sign Nowhere u v h = h
+  better~ k sign (Some s) u v h = cond~ (and~ (lt~ u same) (lt~ same v)) (max_by~ turning_point h same) h
+  better~ k sign None u v h = h
 
   pub extreme~ : (k : List Float) {low low' high high' : Float} (is_max : Bool) → Near low low' → Near high high' → Near (extreme_by p k low high is_max) (extreme_by ours k low' high' is_max)
   unfolding extreme_by

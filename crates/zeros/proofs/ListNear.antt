@@ -1,4 +1,5 @@
 -- The list under any choice of zeros at every call: the same but for the signs of zero peaks.
+use Rattle.std.specs.Prelude.{Option}
 use mathlib.Core.Path.{◌≡◌, refl, ap}
 use Prim.Native.Nat.{ℕ, zero, suc, ◌+◌, ◌-◌, ◌<◌}
 use native.Mathlib.Nat.{le_of_suc-le-suc, not-suc-le-zero}
@@ -8,7 +9,6 @@ use lib.ListN.{get_or, length}
 use lib.Ieee.{Float}
 use Rattle.float.specs.Num.{f0}
 use Rattle.record.specs.declared.Record.{Record}
-use Rattle.pixel.specs.declared.Verdict.{Verdict}
 use Rattle.samples.specs.Level.{Maps, nine_at}
 use Rattle.pixel.specs.Listed as Listed
 use Rattle.detect.specs.Due as Due
@@ -22,7 +22,7 @@ append~ : {a b c d : List Record} → RecordsNear a b → RecordsNear c d → Re
 append~ none k = k
 append~ (more e h) k = more e (append~ h k)
 
-listed~ : {a b : Verdict} → VerdictNear a b → RecordsNear (Listed.listed a) (Listed.listed b)
+listed~ : {a b : (Option Record)} → VerdictNear a b → RecordsNear (Listed.listed a) (Listed.listed b)
 unfolding Listed.listed
 listed~ nothing = none
 listed~ (listed e) = more e none

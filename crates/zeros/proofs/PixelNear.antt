@@ -1,4 +1,5 @@
 -- A pixel's verdict under any choice of zeros: the same but for the sign of a zero peak.
+use Rattle.std.specs.Prelude.{Option, None}
 use mathlib.Core.Path.{◌≡◌, refl}
 use Prim.Native.Nat.{ℕ, zero, suc, ◌+◌, ◌*◌}
 use mathlib.Core.List.{List, []}
@@ -17,14 +18,12 @@ use Rattle.fit.specs.Band.{band_by}
 use Rattle.fit.specs.declared.Band.{Band}
 use Rattle.refine.specs.Refine.{refine_by}
 use Rattle.refine.specs.declared.Spot.{Spot}
-use Rattle.refine.specs.declared.Refined.{Refined}
 use Rattle.record.specs.Readable.{finite_record, readable}
 use Rattle.record.specs.declared.Record.{Record}
 use Rattle.pixel.specs.Gate.{sigma_of, peak_of, strong_of, gate_by}
 use Rattle.pixel.specs.Ring.{all_of, beats_by, ring_by}
 use Rattle.pixel.specs.Verdict.{cubics_of, whole_of, anchor_of, record_of, admit_of, verdict_by, verdict_of}
 use Rattle.pixel.specs.declared.Frame.{Frame}
-use Rattle.pixel.specs.declared.Verdict.TheVariants.{Nothing}
 use Rattle.zeros.specs.Steps.{BandNear, SpotNear, RefinedNear, rejected, accepted}
 use Rattle.zeros.specs.Alike.{RecordNear, VerdictNear, nothing, listed}
 use Rattle.zeros.proofs.NearLaws.{lt~, fin~, chosen~, and~, whole_add~}
@@ -89,7 +88,7 @@ pub readable~ : (rows cols : ℕ) {a b : Record} → RecordNear a b → readable
 unfolding readable finite_record
 readable~ rows cols R = rw (R.x, R.y, R.sigma, fin~ R.peak, R.s0, R.s1, R.s2, R.s3, R.key, R.octave, R.index, R.polarity, R.spare, R.dx, R.dy)
 
-admit~ : (f : Frame) (l : List Float) (key : ℕ) {a b : Refined} → RefinedNear a b → VerdictNear (admit_of f l key a) (admit_of f l key b)
+admit~ : (f : Frame) (l : List Float) (key : ℕ) {a b : (Option Spot)} → RefinedNear a b → VerdictNear (admit_of f l key a) (admit_of f l key b)
 unfolding admit_of
 admit~ f l key rejected = nothing
 admit~ f l key (accepted S) = let R = record~ l key S in chosen~ VerdictNear (readable~ f.rows f.cols R) (listed R) nothing
@@ -114,11 +113,11 @@ module _ (P : ℕ → Prims) (A : (i : ℕ) → Allowed (P i)) (s : Set) (th : T
       (cond
       (whole_of nine && gate_by (P 4) th l (get_or k 4 []) sigma v is_max && ring_by P k v (band_by (P 4) s.sigmas sigma) is_max)
       (admit_of f l (row * f.cols + col) (refine_by (P 4) s th.ratio k (anchor_of row col sigma v f.octave is_max)))
-      Nothing)
+      None)
       (cond
       (whole_of nine && gate_by ours th l (get_or k 4 []) sigma' v' is_max && ring_by (λ i. ours) k v' (band_by ours s.sigmas sigma') is_max)
       (admit_of f l (row * f.cols + col) (refine_by ours s th.ratio k (anchor_of row col sigma' v' f.octave is_max)))
-      Nothing)
+      None)
   from is_max {sigma = sigma} e h =
       let k = cubics_of s.scale nine in
       let l = get_or nine 4 [] in

@@ -1,4 +1,5 @@
 -- What the refinement keeps where the sums start at other zeros.
+use Rattle.std.specs.Prelude.{None}
 use mathlib.Core.Path.{◌≡◌, refl, sym, ◌∙◌, ap}
 use Prim.Native.Nat.{ℕ, zero, suc}
 use mathlib.Core.List.{List}
@@ -12,7 +13,6 @@ use Rattle.fit.specs.Prims.{Prims, Allowed, ours}
 use Rattle.fit.specs.Cubic.{◌at◌}
 use Rattle.refine.specs.Refine.{values_of, edge_of, index_of, sum_from, row_sum_by, spatial_by, denominator_of, steep_of, delta_yOf, delta_xOf, nearby, placed_of, moved_of, refine_by}
 use Rattle.refine.specs.declared.Spot.{Spot}
-use Rattle.refine.specs.declared.Refined.TheVariants.{Rejected}
 use Rattle.zeros.specs.Steps.{Steady, SpotNear, RefinedNear, rejected, accepted}
 use Rattle.zeros.proofs.NearLaws.{near, add~, div~, lt~, fin~, chosen~, abs~, and~, not~, choose~, not_tiny_equal, not-small_equal}
 
@@ -92,8 +92,8 @@ module _ {a b : Spot} (S : SpotNear a b) (x-steady : Steady a.x) (y-steady : Ste
 module _ (p : Prims) (A : Allowed p) (s : Set) (most : Float) (k : List (List Float)) {a b : Spot} (S : SpotNear a b) (x-steady : Steady a.x) (y-steady : Steady a.y) where
   from : {sigma sigma' : Float} {m m' : Bool} → sigma ≡ sigma' → m ≡ m' →
       RefinedNear
-      (cond (edge_of (values_of k sigma) most m) (moved_of a (index_of s.sigmas sigma) (spatial_by p s (index_of s.sigmas sigma) (values_of k sigma))) Rejected)
-      (cond (edge_of (values_of k sigma') most m') (moved_of b (index_of s.sigmas sigma') (spatial_by ours s (index_of s.sigmas sigma') (values_of k sigma'))) Rejected)
+      (cond (edge_of (values_of k sigma) most m) (moved_of a (index_of s.sigmas sigma) (spatial_by p s (index_of s.sigmas sigma) (values_of k sigma))) None)
+      (cond (edge_of (values_of k sigma') most m') (moved_of b (index_of s.sigmas sigma') (spatial_by ours s (index_of s.sigmas sigma') (values_of k sigma'))) None)
   from {sigma = sigma} {m = m} e d =
       let v = values_of k sigma in
       let index = index_of s.sigmas sigma in

@@ -1,10 +1,8 @@
 -- Records, verdicts and lists that differ at most in the signs of zero peaks. Definitions only.
-use Rattle.std.specs.Prelude.{◌≡◌, List, [], ◌∷◌, Float}
+use Rattle.std.specs.Prelude.{◌≡◌, List, [], ◌∷◌, Float, Option, Some, None}
 use Rattle.float.specs.Num.{f0}
 use Rattle.fit.specs.Near.{Near}
 use Rattle.record.specs.declared.Record.{Record}
-use Rattle.pixel.specs.declared.Verdict.{Verdict}
-use Rattle.pixel.specs.declared.Verdict.TheVariants.{Listed, Nothing}
 
 -- two records: each field equal, but the peaks equal or both zeros
 pub record RecordNear (a b : Record) : Type 0 where
@@ -25,9 +23,9 @@ pub record RecordNear (a b : Record) : Type 0 where
   pub dy : a.dy ≡ b.dy
 
 -- two verdicts: both list nothing, or both list such records
-pub data VerdictNear : Verdict → Verdict → Type 0 where
-  nothing : VerdictNear Nothing Nothing
-  listed : {a b : Record} → RecordNear a b → VerdictNear (Listed a) (Listed b)
+pub data VerdictNear : Option Record → Option Record → Type 0 where
+  nothing : VerdictNear None None
+  listed : {a b : Record} → RecordNear a b → VerdictNear (Some a) (Some b)
 
 -- two lists of one length, place by place such records
 pub data RecordsNear : List Record → List Record → Type 0 where

@@ -1,8 +1,7 @@
 -- The list that is due where min, max and the sums choose their zeros freely. Definitions only.
-use Rattle.std.specs.Prelude.{ℕ, zero, suc, ◌+◌, ◌-◌, Bool, true, false, List, [], ◌++◌}
+use Rattle.std.specs.Prelude.{ℕ, zero, suc, ◌+◌, ◌-◌, Bool, true, false, List, [], ◌++◌, Option}
 use Rattle.record.specs.declared.Record.{Record}
 use Rattle.fit.specs.Prims.{Prims, Allowed, ours}
-use Rattle.pixel.specs.declared.Verdict.{Verdict}
 use Rattle.pixel.specs.Verdict.{verdict_by}
 use Rattle.samples.specs.Level.{Maps, nine_at}
 use Rattle.pixel.specs.Listed.{listed}
@@ -20,7 +19,7 @@ abbrev pub all_ours : Choices
 all_ours = λ row col is_max i. ours
 
 -- the verdict on a pixel of the map at one polarity
-unfoldable pub judge_by : Choices → Maps → ℕ → ℕ → Bool → Verdict
+unfoldable pub judge_by : Choices → Maps → ℕ → ℕ → Bool → Option Record
 judge_by P m row col is_max = verdict_by (P row col is_max) m.set m.thresholds m.frame (nine_at m row col) row col is_max
 
 -- what one pixel lists: the minimum before the maximum

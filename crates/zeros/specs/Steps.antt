@@ -1,12 +1,10 @@
 -- What is found on the way to a record, and differs at most in the signs of zeros. Definitions only.
-use Rattle.std.specs.Prelude.{◌≡◌, Float}
+use Rattle.std.specs.Prelude.{◌≡◌, Float, Option, Some, None}
 use Rattle.float.specs.Num.{◌⊕◌}
 use Rattle.fit.specs.Near.{Near}
 use Rattle.fit.specs.declared.Envelope.{Envelope}
 use Rattle.fit.specs.declared.Band.{Band}
 use Rattle.refine.specs.declared.Spot.{Spot}
-use Rattle.refine.specs.declared.Refined.{Refined}
-use Rattle.refine.specs.declared.Refined.TheVariants.{Accepted, Rejected}
 
 -- two envelopes: the values equal or both zeros, the sigmas equal
 pub record EnvelopeNear (a b : Envelope) : Type 0 where
@@ -37,6 +35,6 @@ pub record SpotNear (a b : Spot) : Type 0 where
   pub dy : Near a.dy b.dy
 
 -- two answers of the refinement: both reject, or both accept such spots
-pub data RefinedNear : Refined → Refined → Type 0 where
-  rejected : RefinedNear Rejected Rejected
-  accepted : {a b : Spot} → SpotNear a b → RefinedNear (Accepted a) (Accepted b)
+pub data RefinedNear : Option Spot → Option Spot → Type 0 where
+  rejected : RefinedNear None None
+  accepted : {a b : Spot} → SpotNear a b → RefinedNear (Some a) (Some b)

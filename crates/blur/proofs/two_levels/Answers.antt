@@ -29,12 +29,6 @@ column-requires c =
       cols_in_bounds = (omega (arith, p.plane.room_a, stored-length l.invariant.3), omega (arith, p.plane.room_b, stored-length l.invariant.4));
     }
 
-pub overflow_add-c : goal.overflow_add-c
-overflow_add-c c = omega arith
-
-pub loop-c-smaller : goal.loop-c-smaller
-loop-c-smaller c = omega arith
-
 pub loop-c-preserved : goal.loop-c-preserved
 unfolding columns_of
 loop-c-preserved c =

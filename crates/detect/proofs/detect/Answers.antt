@@ -1,22 +1,25 @@
 -- `detect` meets its contract, refusals and all.
+use Rattle.std.proofs.lemmas.Result.{err_from_is_err_and}
 use native.Mathlib.Omega.{arith}
 use mathlib.Core.Path.{sym, ◌∙◌}
 use Rattle.detect.specs.Detect.{detect_of, detected}
 use Rattle.detect.proofs.DetectLaws.{checks_passed, found-laid}
 use Rattle.detect.proofs.detect.Goals as goal
 
-pub overflow_cast-f : goal.overflow_cast-f
-overflow_cast-f c = let passed = checks_passed _ _ _ _ _ _ _ _ _ (sym c.checked-check.ensures ∙ c.in-Fine.is) in omega (arith, passed.octave-most)
+pub overflow_cast-map : goal.overflow_cast-map
+overflow_cast-map c = let passed = checks_passed _ _ _ _ _ _ _ _ _ (sym c.checked.ensures ∙ c.in_ok-checked.was) in omega (arith, passed.octave-most)
 
-pub rows_spots-requires : goal.rows_spots-requires
-rows_spots-requires c = (checks_passed _ _ _ _ _ _ _ _ _ (sym c.checked-check.ensures ∙ c.in-Fine.is)).sized
+pub invariant_of-map : goal.invariant_of-map
+invariant_of-map c = record { sized = (checks_passed _ _ _ _ _ _ _ _ _ (sym c.checked.ensures ∙ c.in_ok-checked.was)).sized }
 
-pub returns-in-Bad : goal.returns-in-Bad
+pub returns-in_err-checked : goal.returns-in_err-checked
 unfolding detect_of detected
-returns-in-Bad c = rw (← c.checked-check.ensures, c.in-Bad.is)
+returns-in_err-checked c =
+    let p = err_from_is_err_and c.from_residual.result c.from_residual.ensures.1 in
+    rw (p.1, p.2, ← c.checked.ensures, c.in_err-checked.was)
 
-pub returns-in-Fine : goal.returns-in-Fine
+pub returns : goal.returns
 unfolding detect_of
-returns-in-Fine c =
-    rw (← c.checked-check.ensures, c.in-Fine.is)
+returns c =
+    rw (← c.checked.ensures, c.in_ok-checked.was)
     (found-laid _ c.rows_spots.ensures)

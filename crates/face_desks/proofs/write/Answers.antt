@@ -6,4 +6,4 @@ use Rattle.face_desks.proofs.write.Goals as goal
 
 pub returns : goal.returns
 unfolding call_face
-returns c = table-left-by c.told_number.ensures c.write-told.ensures
+returns c = table-left-by c.number_of.ensures c.write-told.ensures

@@ -6,5 +6,5 @@ use Rattle.face_detect.proofs.detect.Goals as goal
 pub returns : goal.returns
 unfolding detect_face
 returns c =
-    rw (← c.read_set-read.ensures)
+    rw (← c.read_or_blank-tables.ensures)
     (left_by_lem c.number_of.ensures c.value_of.ensures c.detect-answer.ensures)

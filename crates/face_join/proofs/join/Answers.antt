@@ -6,5 +6,5 @@ use Rattle.face_join.proofs.join.Goals as goal
 pub returns : goal.returns
 unfolding join_face
 returns c =
-    rw (← c.read_set-read.ensures)
+    rw (← c.read_or_blank-tables.ensures)
     (join_left-by c.number_of.ensures c.value_of.ensures c.join-answer.ensures)

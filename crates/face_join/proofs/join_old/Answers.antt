@@ -6,5 +6,5 @@ use Rattle.face_join.proofs.join_old.Goals as goal
 pub returns : goal.returns
 unfolding join_old_face
 returns c =
-    rw (← c.read_set-held.ensures)
+    rw (← c.read_or_blank-held.ensures)
     (join_left-by c.number_of.ensures c.value_of.ensures c.join_old-answer.ensures)

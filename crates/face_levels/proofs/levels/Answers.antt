@@ -1,18 +1,10 @@
 -- `levels` meets its contract.
-use Rattle.face_levels.specs.Face.{blurred_number, levels_face}
+use Rattle.face_levels.specs.Face.{levels_face}
 use Rattle.face_levels.proofs.FaceLaws.{levels_left-by}
 use Rattle.face_levels.proofs.levels.Goals as goal
 
-pub returns-in-Made : goal.returns-in-Made
-unfolding levels_face blurred_number
-returns-in-Made c =
-    let call = c.levels-answer in
-    let is = c.in-Made.is in
-    rw (← c.read_set-read.ensures) (levels_left-by {a = call.result} (rw is) call.ensures)
-
-pub returns-in-Refused : goal.returns-in-Refused
-unfolding levels_face blurred_number
-returns-in-Refused c =
-    let call = c.levels-answer in
-    let is = c.in-Refused.is in
-    rw (← c.read_set-read.ensures) (levels_left-by {a = call.result} (rw is c.number_of.ensures) call.ensures)
+pub returns : goal.returns
+unfolding levels_face
+returns c =
+    rw (← c.read_or_blank-tables.ensures)
+    (levels_left-by {a = c.levels-answer.result} c.number_of.ensures c.levels-answer.ensures)

@@ -6,4 +6,4 @@ use Rattle.face_partner.proofs.accept.Goals as goal
 
 pub returns : goal.returns
 unfolding accept_face
-returns c = rw (← c.read_set-read.ensures) (c.reply_told-told.ensures ∙ ap reply_told c.accept-reply.ensures)
+returns c = rw (← c.read_or_blank-tables.ensures) (c.reply_told-told.ensures ∙ ap reply_told c.accept-reply.ensures)

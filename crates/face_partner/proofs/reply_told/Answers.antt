@@ -3,10 +3,10 @@ use Rattle.face_partner.specs.Face.{reply_told}
 use borrow.Author.Rules.{rules}
 use Rattle.face_partner.proofs.reply_told.Goals as goal
 
-pub returns-in-Found : goal.returns-in-Found
+pub returns-in-Ok : goal.returns-in-Ok
 unfolding reply_told
-returns-in-Found c = rw c.in-Found.is c.found_told.ensures
+returns-in-Ok c = rw c.in-Ok.is c.found_told.ensures
 
-pub returns-in-Refused : goal.returns-in-Refused
+pub returns-in-Err : goal.returns-in-Err
 unfolding reply_told
-returns-in-Refused c = rw (c.in-Refused.is, ← c.number_of.ensures, ← c.value_of.ensures)
+returns-in-Err c = rw (c.in-Err.is, ← c.from.ensures, ← c.value_of.ensures)

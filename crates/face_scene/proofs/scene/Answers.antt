@@ -7,5 +7,5 @@ use Rattle.face_scene.proofs.scene.Goals as goal
 pub returns : goal.returns
 unfolding scene_face
 returns c =
-    rw (← c.read_set-read.ensures)
+    rw (← c.read_or_blank-tables.ensures)
     (scene_left-by c.number_of.ensures c.value_of.ensures c.scene-answer.ensures)

@@ -1,16 +1,16 @@
 -- `value_of` meets its contract.
-use borrow.Author.Rules.{rules}
+use Rattle.std.proofs.Common.{rules}
 use Rattle.face_scene.specs.Face.{scene_packed}
 use Rattle.face_scene.proofs.value_of.Goals as goal
 
-pub returns-in-Found : goal.returns-in-Found
+pub returns-in-Ok-Found : goal.returns-in-Ok-Found
 unfolding scene_packed
-returns-in-Found c = rw c.in-Found.is
+returns-in-Ok-Found c = search rules
 
-pub returns-in-Full : goal.returns-in-Full
+pub returns-in-Ok-Full : goal.returns-in-Ok-Full
 unfolding scene_packed
-returns-in-Full c = rw c.in-Full.is
+returns-in-Ok-Full c = search rules
 
-pub returns-in-Refused : goal.returns-in-Refused
+pub returns-in-Err : goal.returns-in-Err
 unfolding scene_packed
-returns-in-Refused c = rw c.in-Refused.is c.value_of.ensures
+returns-in-Err c = search rules

@@ -1,8 +1,8 @@
 -- `strike` meets its contract.
-use Rattle.face_store.specs.Face.{store_face}
+use Rattle.face_store.specs.Face.{stored_packed, store_face}
 use Rattle.face_store.proofs.FaceLaws.{store_left-by}
 use Rattle.face_store.proofs.strike.Goals as goal
 
 pub returns : goal.returns
-unfolding store_face
+unfolding store_face stored_packed
 returns c = store_left-by c.number_of.ensures c.value_of.ensures c.strike-answer.ensures

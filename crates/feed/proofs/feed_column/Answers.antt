@@ -15,7 +15,7 @@ unfolding column_of column_checks first_of unless fed_by
 returns-then-wrong c = rw (← c.is_past-past.ensures, ← c.levels_off-wrong.ensures, c.if-past.false, c.if-wrong.true)
 
 pub ring_off-requires : goal.ring_off-requires
-ring_off-requires c = (not-past c.args.s (sym c.is_past-past.ensures ∙ c.if-past.false)).0
+ring_off-requires c = (not-past c.args.s.now (sym c.is_past-past.ensures ∙ c.if-past.false)).0
 
 pub returns-then-ring_off : goal.returns-then-ring_off
 unfolding column_of column_checks first_of unless fed_by
@@ -24,9 +24,9 @@ returns-then-ring_off c = rw (← c.is_past-past.ensures, ← c.levels_off-wrong
 pub taken-requires : goal.taken-requires
 taken-requires c =
     let a = c.args in
-    let past = not-past a.s (sym c.is_past-past.ensures ∙ c.if-past.false) in
-    let wrong = not_wrong a.s.rows (four_of a.c0.now a.c1.now a.c2.now a.c3.now) (sym c.levels_off-wrong.ensures ∙ c.if-wrong.false) in
-    let short = not_short a.s.rows (four_of a.r0.now a.r1.now a.r2.now a.r3.now) (sym c.ring_off.ensures ∙ c.if-ring_off.false) in
+    let past = not-past a.s.now (sym c.is_past-past.ensures ∙ c.if-past.false) in
+    let wrong = not_wrong a.s.now.rows (four_of a.c0.now a.c1.now a.c2.now a.c3.now) (sym c.levels_off-wrong.ensures ∙ c.if-wrong.false) in
+    let short = not_short a.s.now.rows (four_of a.r0.now a.r1.now a.r2.now a.r3.now) (sym c.ring_off.ensures ∙ c.if-ring_off.false) in
     record { lent = record { rows-most = past.0; roomy = short; long = wrong }; cols_bound = (past.1, past.2) }
 
 pub returns : goal.returns

@@ -3,10 +3,10 @@ use mathlib.Core.Path.{◌∙◌}
 use Rattle.follow.specs.Follow.{step_of}
 use Rattle.follow.proofs.step.Goals as goal
 
-pub returns-in-Going : goal.returns-in-Going
+pub returns : goal.returns
 unfolding step_of
-returns-in-Going c = c.meet.ensures ∙ rw c.in-Going.is
+returns c = c.meet.ensures ∙ rw (c.in_ok-w.was)
 
-pub returns-in-Ended : goal.returns-in-Ended
+pub returns-in_err-w : goal.returns-in_err-w
 unfolding step_of
-returns-in-Ended c = rw c.in-Ended.is
+returns-in_err-w c = c.from_residual.ensures ∙ rw (c.in_err-w.was)

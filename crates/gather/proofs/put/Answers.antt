@@ -4,4 +4,4 @@ use Rattle.gather.proofs.StepLaws.{four_written}
 use Rattle.gather.proofs.put.Goals as goal
 
 pub returns : goal.returns
-returns c = four_written c.args.x c.args.a.now c.args.m (omega (arith, c.requires.0, c.requires.1))
+returns g c = four_written c.args.x c.args.a.now c.args.m (omega arith)

@@ -1,5 +1,5 @@
 -- `put_rows` meets its contract.
-use mathlib.Core.Path.{ap, ◌∙◌}
+use Rattle.std.proofs.Common.{rules, ◌≡◌, ap, ◌∙◌}
 use lib.Ieee.{Float}
 use Rattle.float.specs.Num.{◌⊕◌}
 use Rattle.fit.specs.Cubic.{◌at◌}
@@ -13,5 +13,5 @@ returns c =
       first = each-written c.rows.result _ c.rows.ensures c.put.ensures;
       second = each-written c.rows-2.result _ c.rows-2.ensures c.put-2.ensures;
       third = each-written c.rows-3.result _ c.rows-3.ensures c.put-3.ensures;
-      fourth = each-written c.more.result _ (λ q h. c.more.ensures q h ∙ ap (λ (y : Float). y ⊕ s at q) (c.rows-4.ensures q h)) c.put-4.ensures;
+      fourth = each-written c.pairwise.result _ (λ q h. let p = c.pairwise.ensures q h in let e : c.pairwise.result at q ≡ (c.rows-4.result at q) ⊕ (s at q) = search rules in e ∙ ap (λ (y : Float). y ⊕ s at q) (c.rows-4.ensures q h)) c.put-4.ensures;
     }

@@ -1,4 +1,5 @@
 -- `levels` meets its contract, refusals and all.
+use Rattle.std.proofs.lemmas.Result.{err_from_is_err_and}
 use native.Mathlib.Omega.{arith}
 use mathlib.Core.Path.{sym, ◌∙◌}
 use Rattle.levels.specs.Levels.{levels_of, made}
@@ -6,19 +7,21 @@ use Rattle.levels.proofs.LevelsLaws.{checks_passed}
 use Rattle.levels.proofs.levels.Goals as goal
 
 pub two-requires : goal.two-requires
-two-requires c = record { n_bound = omega arith; plane = (checks_passed _ _ _ _ _ _ _ _ _ (sym c.checked-check.ensures ∙ c.in-Fine.is)).first }
+two-requires c = record { n_bound = omega arith; plane = (checks_passed _ _ _ _ _ _ _ _ _ (sym c.checked.ensures ∙ c.in_ok-checked.was)).first }
 
-pub two-requires-in-Fine : goal.two-requires-in-Fine
-two-requires-in-Fine c = record { n_bound = omega arith; plane = (checks_passed _ _ _ _ _ _ _ _ _ (sym c.checked-check.ensures ∙ c.in-Fine.is)).last }
+pub two-requires-2 : goal.two-requires-2
+two-requires-2 c = record { n_bound = omega arith; plane = (checks_passed _ _ _ _ _ _ _ _ _ (sym c.checked.ensures ∙ c.in_ok-checked.was)).last }
 
-pub returns-in-Bad : goal.returns-in-Bad
+pub returns-in_err-checked : goal.returns-in_err-checked
 unfolding levels_of made
-returns-in-Bad c = rw (← c.checked-check.ensures, c.in-Bad.is)
+returns-in_err-checked c =
+    let p = err_from_is_err_and c.from_residual.result c.from_residual.ensures.1 in
+    rw (p.1, p.2, ← c.checked.ensures, c.in_err-checked.was)
 
-pub returns-in-Fine : goal.returns-in-Fine
+pub returns : goal.returns
 unfolding levels_of made
-returns-in-Fine c =
-    let fine = sym c.checked-check.ensures ∙ c.in-Fine.is in
+returns c =
+    let fine = sym c.checked.ensures ∙ c.in_ok-checked.was in
     let first = c.two.ensures in
-    let last = c.two-in-Fine.ensures in
+    let last = c.two-2.ensures in
     rw (fine, first.0, first.1, last.0, last.1)

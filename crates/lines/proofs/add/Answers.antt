@@ -10,47 +10,11 @@ pub loop-i-init : goal.loop-i-init
 unfolding list_of
 loop-i-init c = (omega arith, stored-none)
 
-pub overflow_add-out : goal.overflow_add-out
-overflow_add-out c = omega arith
-
-pub offset_bounds-out-at : goal.offset_bounds-out-at
-offset_bounds-out-at c = omega arith
-
 pub bounds-out-at : goal.bounds-out-at
 bounds-out-at c = omega (arith, stored-length c.loop-i.invariant.1)
 
-pub overflow_add-out-in-loop-i : goal.overflow_add-out-in-loop-i
-overflow_add-out-in-loop-i c = omega arith
-
-pub offset_bounds-list-lo : goal.offset_bounds-list-lo
-offset_bounds-list-lo c = omega arith
-
-pub bounds-list-lo : goal.bounds-list-lo
-bounds-list-lo c = omega arith
-
-pub overflow_add-out-in-loop-i-2 : goal.overflow_add-out-in-loop-i-2
-overflow_add-out-in-loop-i-2 c = omega arith
-
-pub offset_bounds-list-hi : goal.offset_bounds-list-hi
-offset_bounds-list-hi c = omega arith
-
-pub bounds-list-hi : goal.bounds-list-hi
-bounds-list-hi c = omega arith
-
-pub overflow_add-out-in-loop-i-3 : goal.overflow_add-out-in-loop-i-3
-overflow_add-out-in-loop-i-3 c = omega arith
-
-pub offset_bounds-out-at-in-loop-i : goal.offset_bounds-out-at-in-loop-i
-offset_bounds-out-at-in-loop-i c = omega arith
-
 pub bounds-out-at-in-loop-i : goal.bounds-out-at-in-loop-i
 bounds-out-at-in-loop-i c = omega (arith, stored-length c.loop-i.invariant.1)
-
-pub overflow_add-i : goal.overflow_add-i
-overflow_add-i c = omega arith
-
-pub loop-i-smaller : goal.loop-i-smaller
-loop-i-smaller c = omega arith
 
 pub loop-i-preserved : goal.loop-i-preserved
 unfolding more

@@ -10,6 +10,3 @@ abbrev pub invariant-loop-i : goal.invariant-loop-i
 invariant-loop-i l =
     (l.i ≤ l.n) × (length l.out ≡ length l.initial.out) × Stored l.initial.out l.out l.at
     (list_of (more (more (more (more (from l.initial.out l.at) l.list l.lo l.hi l.w) l.list (l.lo - 1) (l.hi + 1) l.w2) l.list (l.lo - 2) (l.hi + 2) l.w3) l.list (l.lo - 3) (l.hi + 3) l.w4) l.i)
-
-abbrev pub decreases-loop-i : goal.decreases-loop-i
-decreases-loop-i l = l.n - l.i

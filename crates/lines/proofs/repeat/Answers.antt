@@ -1,34 +1,22 @@
--- `repeat` meets its contract. The loop's invariant: the first i places hold x.
+-- `repeat` meets its contract.
 use native.Mathlib.Omega.{arith}
-use mathlib.Core.Path.{◌≡◌, refl}
+use Prim.Native.Nat.{ℕ, ◌+◌, ◌-◌, ◌≤◌}
+use mathlib.Core.Path.{◌≡◌, sym, ◌∙◌}
+use mathlib.Core.List.{List, append_assoc}
+use lib.ListN.{length, take, drop, replicate, length-take, length-drop}
+use lib.Seq.{sets, sets-eq, drop-drop}
+use lib.Ieee.{Float}
+use borrow.Rule.Slice.PartMut.{put_mid}
 use Rattle.grid.specs.Grid.{list_of}
-use Rattle.grid.proofs.StoredLaws.{stored-none, stored_next, stored-length}
 use Rattle.lines.proofs.repeat.Goals as goal
 
-pub loop-i-init : goal.loop-i-init
+filled : (out : List Float) (at n : ℕ) (x : Float) → at + 16 ≤ length out → n ≡ 16 → put_mid at (at + 16 - at) out (replicate n x) ≡ sets out at (list_of (λ i. x) 16)
 unfolding list_of
-loop-i-init c = (omega arith, stored-none)
-
-pub overflow_add-out : goal.overflow_add-out
-overflow_add-out c = omega arith
-
-pub offset_bounds-out-at : goal.offset_bounds-out-at
-offset_bounds-out-at c = omega arith
-
-pub bounds-out-at : goal.bounds-out-at
-bounds-out-at c = omega (arith, stored-length c.loop-i.invariant.1)
-
-pub overflow_add-i : goal.overflow_add-i
-overflow_add-i c = omega arith
-
-pub loop-i-smaller : goal.loop-i-smaller
-loop-i-smaller c = omega arith
-
-pub loop-i-preserved : goal.loop-i-preserved
-loop-i-preserved c = (omega arith, stored_next _ c.loop-i.invariant.1 refl)
-
-pub shape_of-out : goal.shape_of-out
-shape_of-out c = stored-length c.loop-i.invariant.1
+filled out at n x h e =
+    let w : at + 16 - at ≡ 16 = omega arith in
+    rw (e, w, drop-drop 16 at out) (sym (sets-eq (replicate 16 x) out at (omega arith) ∙ append_assoc (take at out) (replicate 16 x) (drop (at + 16) out)))
 
 pub returns : goal.returns
-returns c = let end : c.loop-i.i ≡ 16 = omega arith in rw end at c.loop-i.invariant.1
+returns c =
+    let a = c.args in
+    record { floats = rw (c.fill.ensures.after (λ y e. e)) (filled a.out.now a.at _ a.x c.requires (simp (length-take, length-drop) (omega arith))) }

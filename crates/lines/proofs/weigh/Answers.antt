@@ -10,29 +10,8 @@ pub loop-i-init : goal.loop-i-init
 unfolding list_of
 loop-i-init c = (omega arith, stored-none)
 
-pub overflow_add-out : goal.overflow_add-out
-overflow_add-out c = omega arith
-
-pub offset_bounds-list-p : goal.offset_bounds-list-p
-offset_bounds-list-p c = omega arith
-
-pub bounds-list-p : goal.bounds-list-p
-bounds-list-p c = omega arith
-
-pub overflow_add-out-in-loop-i : goal.overflow_add-out-in-loop-i
-overflow_add-out-in-loop-i c = omega arith
-
-pub offset_bounds-out-at : goal.offset_bounds-out-at
-offset_bounds-out-at c = omega arith
-
 pub bounds-out-at : goal.bounds-out-at
 bounds-out-at c = omega (arith, stored-length c.loop-i.invariant.1)
-
-pub overflow_add-i : goal.overflow_add-i
-overflow_add-i c = omega arith
-
-pub loop-i-smaller : goal.loop-i-smaller
-loop-i-smaller c = omega arith
 
 pub loop-i-preserved : goal.loop-i-preserved
 unfolding weighed

@@ -5,16 +5,16 @@ use Rattle.lister.proofs.OutputLaws.{wrote_begins, begins_counts}
 use Rattle.lister.proofs.list.Goals as goal
 
 pub list_tile-requires : goal.list_tile-requires
-list_tile-requires c = sym c.checked-check.ensures ∙ c.in-Fine.is
+list_tile-requires c = sym c.checked-check.ensures ∙ c.in-Ok.is
 
-pub returns-in-Bad : goal.returns-in-Bad
+pub returns-in-Err : goal.returns-in-Err
 unfolding list_output checked_output
-returns-in-Bad c =
+returns-in-Err c =
     let b = wrote_begins c.put_refused.ensures in
-    record { begins = rw (← c.checked-check.ensures, c.in-Bad.is, ← c.number_of.ensures) b; prefix_len = begins_counts b }
+    record { begins = rw (← c.checked-check.ensures, c.in-Err.is, ← c.from.ensures) b; prefix_len = begins_counts b }
 
-pub returns-in-Fine : goal.returns-in-Fine
+pub returns-in-Ok : goal.returns-in-Ok
 unfolding list_output checked_output
-returns-in-Fine c =
+returns-in-Ok c =
     let b = c.list_tile.ensures in
-    record { begins = rw (← c.checked-check.ensures, c.in-Fine.is) b; prefix_len = begins_counts b }
+    record { begins = rw (← c.checked-check.ensures, c.in-Ok.is) b; prefix_len = begins_counts b }

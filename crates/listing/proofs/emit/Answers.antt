@@ -5,10 +5,10 @@ use Rattle.record.proofs.LayoutLaws.{lay-one, laid_none}
 use Rattle.pixel.specs.Listed.{listed}
 use Rattle.listing.proofs.emit.Goals as goal
 
-pub returns-in-Listed : goal.returns-in-Listed
+pub returns-in-Some : goal.returns-in-Some
 unfolding listed
-returns-in-Listed c = rw c.in-Listed.is (record { count = refl; bytes = c.put_at.ensures ∙ sym (lay-one _ _ _) }, omega arith)
+returns-in-Some c = rw c.in-Some.is (record { count = refl; bytes = c.put_at.ensures ∙ sym (lay-one _ _ _) }, omega arith)
 
-pub returns-in-Nothing : goal.returns-in-Nothing
+pub returns-in-None : goal.returns-in-None
 unfolding listed
-returns-in-Nothing c = rw c.in-Nothing.is (laid_none, omega arith)
+returns-in-None c = rw c.in-None.is (laid_none, omega arith)

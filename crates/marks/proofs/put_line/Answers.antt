@@ -1,32 +1,15 @@
 -- `put_line` meets its contract. The loop's invariant: the first i bytes of the column are written.
+use borrow.Author.Rules.{rules}
 use mathlib.Core.Path.{◌≡◌}
 use native.Mathlib.Omega.{arith}
 use Rattle.marks.proofs.MarksLaws.{puts_none, puts_more, puts_all}
 use Rattle.marks.proofs.put_line.Goals as goal
 
 pub loop-i-init : goal.loop-i-init
-loop-i-init c = (omega arith, puts_none c.requires.marks_len)
-
-pub overflow_mul-i : goal.overflow_mul-i
-overflow_mul-i c = omega arith
+loop-i-init c = (omega arith, puts_none (search rules))
 
 pub byte_of-requires : goal.byte_of-requires
 byte_of-requires c = record { i_bound = omega arith; by_index = c.requires.by_index }
-
-pub overflow_mul-marks : goal.overflow_mul-marks
-overflow_mul-marks c = omega arith
-
-pub overflow_add-marks : goal.overflow_add-marks
-overflow_add-marks c = omega arith
-
-pub bounds-marks-i : goal.bounds-marks-i
-bounds-marks-i c = omega arith
-
-pub overflow_add-i : goal.overflow_add-i
-overflow_add-i c = omega arith
-
-pub loop-i-smaller : goal.loop-i-smaller
-loop-i-smaller c = omega arith
 
 pub loop-i-preserved : goal.loop-i-preserved
 loop-i-preserved c = (omega arith, puts_more c.byte_of.result c.requires.col_bound c.loop-i-test.true c.byte_of.ensures c.loop-i.invariant.1)

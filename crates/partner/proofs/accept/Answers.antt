@@ -1,27 +1,29 @@
 -- `accept` meets its contract, refusals and all.
+use Rattle.std.proofs.lemmas.Result.{err_from_is_err_and}
+use Rattle.std.specs.Prelude.{Ok}
 use native.Mathlib.Omega.{arith}
 use mathlib.Core.Path.{sym, ap, ◌∙◌}
 use Rattle.detect.proofs.DetectLaws.{checks_passed}
 use Rattle.partner.specs.Partner.{replied_of, partner_of}
-use Rattle.partner.specs.declared.Reply.TheVariants.{Found}
 use Rattle.partner.proofs.CheckLaws.{checks_fine}
-use borrow.Author.Rules.{rules}
 use Rattle.partner.proofs.accept.Goals as goal
 
-pub overflow_cast-f : goal.overflow_cast-f
-overflow_cast-f c =
-    let fine = checks_fine _ _ _ _ _ _ _ _ _ _ (sym c.checked-check.ensures ∙ c.in-Fine.is) in
+pub overflow_cast-map : goal.overflow_cast-map
+overflow_cast-map c =
+    let fine = checks_fine _ _ _ _ _ _ _ _ _ _ (sym c.checked.ensures ∙ c.in_ok-checked.was) in
     omega (arith, (checks_passed _ _ _ _ _ _ _ _ _ fine.0).octave-most)
 
-pub followed-requires : goal.followed-requires
-followed-requires c =
-    let fine = checks_fine _ _ _ _ _ _ _ _ _ _ (sym c.checked-check.ensures ∙ c.in-Fine.is) in
-    (checks_passed _ _ _ _ _ _ _ _ _ fine.0).sized
+pub invariant_of-map : goal.invariant_of-map
+invariant_of-map c =
+    let fine = checks_fine _ _ _ _ _ _ _ _ _ _ (sym c.checked.ensures ∙ c.in_ok-checked.was) in
+    record { sized = (checks_passed _ _ _ _ _ _ _ _ _ fine.0).sized }
 
-pub returns-in-Bad : goal.returns-in-Bad
+pub returns-in_err-checked : goal.returns-in_err-checked
 unfolding partner_of replied_of
-returns-in-Bad c = rw (← c.checked-check.ensures, c.in-Bad.is)
+returns-in_err-checked c =
+    let p = err_from_is_err_and c.from_residual.result c.from_residual.ensures.1 in
+    rw (p.1, p.2, ← c.checked.ensures, c.in_err-checked.was)
 
-pub returns-in-Fine : goal.returns-in-Fine
+pub returns : goal.returns
 unfolding partner_of replied_of
-returns-in-Fine c = rw (← c.checked-check.ensures, c.in-Fine.is) (ap Found c.followed.ensures)
+returns c = rw (← c.checked.ensures, c.in_ok-checked.was) (ap Ok c.followed.ensures)

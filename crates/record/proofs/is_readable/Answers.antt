@@ -14,4 +14,4 @@ overflow_mul-result c = record { fits = area_fits c.args.rows c.args.cols c.requ
 pub returns : goal.returns
 unfolding readable
 returns c =
-    rw (← c.is_finite_record.ensures, ← c.is_on_side.ensures, ← c.is_on_side-2.ensures, ← c.as_usize.ensures, ← c.is_nearby.ensures, ← c.is_nearby-2.ensures)
+    rw (← c.is_finite_record.ensures, ← c.is_on_side.ensures, ← c.is_on_side-2.ensures, ← c.is_nearby.ensures, ← c.is_nearby-2.ensures)

@@ -3,7 +3,7 @@ use Prim.Native.Nat.{ℕ, ◌+◌, ◌-◌}
 use native.Mathlib.Omega.{arith}
 use mathlib.Core.Path.{◌≡◌, sym, ap, ◌∙◌}
 use Rattle.samples.specs.Level.{nine_of}
-use Rattle.samples.specs.Four.{four_of}
+use Rattle.samples.specs.Map.{four_in}
 use Rattle.ring.specs.Ring.{samples_fed}
 use Rattle.ring.proofs.RingLaws.{ring_beside, nine_fed_lem}
 use Rattle.ring.proofs.nine_at.Goals as goal
@@ -21,8 +21,8 @@ pub returns : goal.returns
 returns c =
     let a = c.args in
     let p = c.requires in
-    let ring = four_of a.r0.now a.r1.now a.r2.now a.r3.now in
-    let given = four_of a.c0.now a.c1.now a.c2.now a.c3.now in
+    let ring = four_in a.ring.now in
+    let given = four_in a.given.now in
     let own : a.row - 1 + 0 + 1 ≡ a.row = omega (arith, p.le_row.0) in
     c.nine_by.ensures
     ∙ sym (nine_fed_lem ring given a.rows a.n a.g (a.row - 1) p.le_n.0 (omega (arith, p.le_row.0)) c.slot-u.ensures.0 c.slot-x.ensures.0 c.slot-y.ensures.0 c.slot-z.ensures.0 0)

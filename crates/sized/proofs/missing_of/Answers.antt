@@ -2,10 +2,10 @@
 use Rattle.sized.specs.Sized.{missing_of}
 use Rattle.sized.proofs.missing_of.Goals as goal
 
-pub returns-in-Sigma : goal.returns-in-Sigma
+pub returns-in-Ok : goal.returns-in-Ok
 unfolding missing_of
-returns-in-Sigma c = rw c.in-Sigma.is
+returns-in-Ok c = rw c.in-Ok.is
 
-pub returns-in-NoSize : goal.returns-in-NoSize
+pub returns-in-Err : goal.returns-in-Err
 unfolding missing_of
-returns-in-NoSize c = rw (c.in-NoSize.is, ← c.cause_of.ensures)
+returns-in-Err c = rw (c.in-Err.is, ← c.from.ensures)

@@ -2,9 +2,6 @@
 use Rattle.slots.proofs.ColumnLaws.{filled_alike, lines_read}
 use Rattle.slots.proofs.column.Goals as goal
 
-pub points-requires : goal.points-requires
-points-requires c = let start = c.requires in record { n_bound = start.n_bound; rings = start.rings }
-
 pub returns : goal.returns
 returns c =
     filled_alike (lines_read c.args.set.sigmas c.log_lines.ensures) c.points.ensures

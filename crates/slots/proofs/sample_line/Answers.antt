@@ -23,7 +23,7 @@ stencil-requires c = let h = c.requires.reach in record { le_mid = (omega (arith
 pub loop-i-preserved : goal.loop-i-preserved
 loop-i-preserved c =
     let l = c.loop-i in
-    (omega arith, written_next nan c.stencil.result l.invariant.1 (omega (arith, c.requires.s_len)) c.stencil.ensures)
+    (omega arith, written_next nan c.stencil.result l.invariant.1 (omega arith) c.stencil.ensures)
 
 pub returns : goal.returns
 returns c =

@@ -1,4 +1,5 @@
 -- `add` meets its contract.
+use Rattle.std.proofs.lemmas.Result.{err_from_is_err_and}
 use Prim.Native.Nat.{◌*◌}
 use native.Mathlib.Omega.{arith}
 use mathlib.Core.Path.{sym, ap, ◌∙◌}
@@ -12,24 +13,25 @@ use Rattle.store.proofs.add.Goals as goal
 pub overflow_mul-free : goal.overflow_mul-free
 overflow_mul-free c =
     let a = c.args in
-    let p = add-passed a.rows a.cols a.spot.now a.buffer.now (sym c.add-check.ensures ∙ c.in-Fine.is) in
+    let p = add-passed a.rows a.cols a.spot.now a.buffer.now (sym c.add.ensures ∙ c.in_ok-add.was) in
     omega (arith, p.room, c.first_free-free.ensures)
 
 pub put_first-requires : goal.put_first-requires
 put_first-requires c =
     let a = c.args in
-    let p = add-passed a.rows a.cols a.spot.now a.buffer.now (sym c.add-check.ensures ∙ c.in-Fine.is) in
+    let p = add-passed a.rows a.cols a.spot.now a.buffer.now (sym c.add.ensures ∙ c.in_ok-add.was) in
     record { n_in_bounds = omega (arith, p.long); n_in_bounds_2 = omega (arith, p.room, c.first_free-free.ensures) }
 
-pub returns-in-Bad : goal.returns-in-Bad
-returns-in-Bad c =
+pub returns-in_err-add : goal.returns-in_err-add
+returns-in_err-add c =
     let a = c.args in
-    sym (call_refused (Add a.rows a.cols a.spot.now) a.buffer.now _ (sym c.add-check.ensures ∙ c.in-Bad.is))
+    let p = err_from_is_err_and c.from_residual.result c.from_residual.ensures.1 in
+    rw (p.1, p.2) (sym (call_refused (Add a.rows a.cols a.spot.now) a.buffer.now _ (sym c.add.ensures ∙ c.in_err-add.was)))
 
-pub returns-in-Fine : goal.returns-in-Fine
-returns-in-Fine c =
+pub returns : goal.returns
+returns c =
     let a = c.args in
-    let fine = sym c.add-check.ensures ∙ c.in-Fine.is in
+    let fine = sym c.add.ensures ∙ c.in_ok-add.was in
     let p = add-passed a.rows a.cols a.spot.now a.buffer.now fine in
     let i = c.first_free-free in
     let stored = c.put_first.ensures ∙ ap (sets a.buffer.now (i.result * spot_width)) (take_all spot_width a.spot.now (omega (arith, p.long))) in

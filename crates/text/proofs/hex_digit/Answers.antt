@@ -1,4 +1,5 @@
 -- `hex_digit` meets its contract.
+use native.Mathlib.Omega.{arith}
 use borrow.Author.Tests.{lt-ltb, le-ltb}
 use Rattle.text.specs.Text.{hex_digit}
 use Rattle.text.proofs.hex_digit.Goals as goal
@@ -9,4 +10,4 @@ returns-then-d-lt10 c = rw (lt-ltb _ _ c.if-d-lt10.true)
 
 pub returns-else-d-lt10 : goal.returns-else-d-lt10
 unfolding hex_digit
-returns-else-d-lt10 c = rw (le-ltb _ _ c.if-d-lt10.false)
+returns-else-d-lt10 c = rw (le-ltb _ _ c.if-d-lt10.false) (omega arith)

@@ -13,12 +13,6 @@ loop-i-init c = (omega arith, omega arith, wrote_none)
 pub put_line-next-requires : goal.put_line-next-requires
 put_line-next-requires c = record { line_width_in_bounds = omega (arith, c.loop-i.invariant.2.long); spot_width_in_bounds = omega arith }
 
-pub overflow_add-i : goal.overflow_add-i
-overflow_add-i c = omega arith
-
-pub loop-i-smaller : goal.loop-i-smaller
-loop-i-smaller c = omega arith
-
 pub loop-i-preserved : goal.loop-i-preserved
 unfolding lines_in
 loop-i-preserved c =

@@ -1,5 +1,4 @@
 -- `words::float_from` meets its contract. Assumes nothing.
-use borrow.Author.Rules.{rules}
 use Rattle.words.specs.Words.{float_from}
 use Rattle.words.proofs.float_from.Goals as goal
 

@@ -1,5 +1,4 @@
 -- `words::put_float` meets its contract. Assumes nothing.
-use borrow.Author.Rules.{rules}
 use Rattle.words.specs.Words.{float_bytes}
 use Rattle.words.proofs.put_float.Goals as goal
 

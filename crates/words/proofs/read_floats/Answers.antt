@@ -1,9 +1,8 @@
 -- `words::read_floats` meets its contract.
 use mathlib.Core.Path.{◌≡◌, refl, sym, ◌∙◌}
-use Prim.Native.Nat.{◌≤◌, ◌<◌, ◌-◌}
+use Prim.Native.Nat.{◌<◌}
 use native.Mathlib.Omega.{arith}
-use borrow.Author.Rules.{rules}
-use lib.ListN.{length, take, length-set}
+use lib.ListN.{length, length-set}
 use lib.Seq.{take_all}
 use Rattle.words.specs.Words.{floats_at}
 use Rattle.words.proofs.Stores.{filled_next}
@@ -14,24 +13,6 @@ pub loop-k-init : goal.loop-k-init
 unfolding floats_at
 loop-k-init c = (omega arith, refl, refl)
 
-pub overflow_add-i : goal.overflow_add-i
-overflow_add-i c = omega arith
-
-pub overflow_mul-i : goal.overflow_mul-i
-overflow_mul-i c = omega arith
-
-pub float_from-requires : goal.float_from-requires
-float_from-requires c = omega arith
-
-pub bounds-out-k : goal.bounds-out-k
-bounds-out-k c = omega arith
-
-pub overflow_add-k : goal.overflow_add-k
-overflow_add-k c = omega arith
-
-pub loop-k-smaller : goal.loop-k-smaller
-loop-k-smaller c = simp length-set (omega arith)
-
 pub loop-k-preserved : goal.loop-k-preserved
 loop-k-preserved c =
     let l = c.loop-k in
@@ -40,9 +21,6 @@ loop-k-preserved c =
       simp length-set (omega arith),
       rw c.float_from.ensures (filled_next l.out _ l.k _ h l.invariant.2 ∙ floats-next l.k _ _),
     )
-
-pub shape_of-out : goal.shape_of-out
-shape_of-out c = omega arith
 
 pub returns : goal.returns
 returns c =

@@ -1,4 +1,5 @@
 -- `across::shared` meets its contract. The loop's invariant: both lines hold their passes by the taps up to t.
+use borrow.Author.Rules.{rules}
 use native.Mathlib.Omega.{arith}
 use Rattle.blur.proofs.PassLaws.{line-holds, column_inside, map-most, across-first}
 use Rattle.blur.proofs.across.shared.Goals as goal
@@ -6,17 +7,11 @@ use Rattle.blur.proofs.across.shared.Goals as goal
 pub overflow_mul-col : goal.overflow_mul-col
 overflow_mul-col c = let m = c.requires.map in omega (arith, map-most m, column_inside m _ m.inside)
 
-pub bounds-j-0 : goal.bounds-j-0
-bounds-j-0 c = omega arith
-
 pub weigh-requires : goal.weigh-requires
 weigh-requires c = let p = c.requires in record { n_in_bounds = column_inside p.map _ p.map.inside; n_in_bounds_2 = omega (arith, p.map.rows-most, p.a_len.0) }
 
 pub overflow_mul-col-2 : goal.overflow_mul-col-2
 overflow_mul-col-2 c = let m = c.requires.map in omega (arith, map-most m, column_inside m _ m.inside)
-
-pub bounds-k-0 : goal.bounds-k-0
-bounds-k-0 c = omega arith
 
 pub weigh-requires-2 : goal.weigh-requires-2
 weigh-requires-2 c = let p = c.requires in record { n_in_bounds = column_inside p.map _ p.map.inside; n_in_bounds_2 = omega (arith, p.map.rows-most, p.a_len.1) }
@@ -25,25 +20,16 @@ pub loop-t-init : goal.loop-t-init
 loop-t-init c =
     let p = c.requires in (
       omega arith,
-      c.smaller-least.ensures,
+      search rules,
       line-holds _ _ p.a_len.0 p.map.rows-most c.weigh.ensures (λ r less. across-first _ _ _ _ _ r),
       line-holds _ _ p.a_len.1 p.map.rows-most c.weigh-2.ensures (λ r less. across-first _ _ _ _ _ r),
     )
-
-pub overflow_add-t : goal.overflow_add-t
-overflow_add-t c = omega arith
 
 pub step_both-requires : goal.step_both-requires
 step_both-requires c =
     let p = c.requires in
     let l = c.loop-t in
     record { map = p.map; t_bound = omega (arith, p.radii.first, l.invariant.1); holds = l.invariant.2; holds_2 = l.invariant.3 }
-
-pub overflow_add-t-in-loop-t : goal.overflow_add-t-in-loop-t
-overflow_add-t-in-loop-t c = omega arith
-
-pub loop-t-smaller : goal.loop-t-smaller
-loop-t-smaller c = omega arith
 
 pub loop-t-preserved : goal.loop-t-preserved
 loop-t-preserved c = (omega arith, c.loop-t.invariant.1, c.step_both.ensures.0, c.step_both.ensures.1)

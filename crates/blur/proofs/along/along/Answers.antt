@@ -5,9 +5,6 @@ use Rattle.grid.proofs.StoredLaws.{stored-length, stored-float, stored_self}
 use Rattle.blur.proofs.PassLaws.{stored_over, along_first}
 use Rattle.blur.proofs.along.along.Goals as goal
 
-pub bounds-k-0 : goal.bounds-k-0
-bounds-k-0 c = omega arith
-
 pub weigh-requires : goal.weigh-requires
 weigh-requires c = let p = c.requires in record { n_in_bounds = omega (arith, p.padded.long, p.padded.most); n_in_bounds_2 = p.rows_in_bounds }
 

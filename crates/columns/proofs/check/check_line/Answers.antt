@@ -6,15 +6,15 @@ use Rattle.columns.proofs.LineLaws.{written_none, written_next}
 use Rattle.columns.proofs.check.check_line.Goals as goal
 
 pub loop-i-init : goal.loop-i-init
-loop-i-init c = (omega arith, written_none nan _ 0 _)
+loop-i-init c = written_none nan _ 0 _
 
 pub loop-i-preserved : goal.loop-i-preserved
 loop-i-preserved c =
     let l = c.loop-i in
-    (omega arith, written_next nan c.checked.result l.invariant.1 (omega (arith, c.requires.r_len)) c.checked.ensures)
+    written_next nan c.checked.result l.invariant (omega arith) c.checked.ensures
 
 pub returns : goal.returns
 returns c =
     let l = c.loop-i in
     let e : c.args.n ≡ l.i = omega (arith, c.loop-i-test.false) in
-    rw e l.invariant.1
+    rw e l.invariant

@@ -2,10 +2,10 @@
 use Rattle.fit.specs.Band.{better_by}
 use Rattle.fit.proofs.scale_fit.better.Goals as goal
 
-pub returns-in-At : goal.returns-in-At
+pub returns-in-Some : goal.returns-in-Some
 unfolding better_by
-returns-in-At c = rw (c.in-At.is, c.pick.ensures, c.max-value.ensures, c.horner.ensures)
+returns-in-Some c = rw (c.in-Some.is, c.pick.ensures, c.max-value.ensures, c.horner.ensures)
 
-pub returns-in-Nowhere : goal.returns-in-Nowhere
+pub returns-in-None : goal.returns-in-None
 unfolding better_by
-returns-in-Nowhere c = rw c.in-Nowhere.is
+returns-in-None c = rw c.in-None.is

@@ -8,10 +8,10 @@ use Rattle.join.specs.Join.{records_from, sized_all}
 use Rattle.join.proofs.put.put_all.Given as goal
 
 abbrev pub invariant-loop-i : goal.invariant-loop-i
-invariant-loop-i l =
+invariant-loop-i g l =
     (l.i ≤ l.count)
     × ((length l.out ≡ length l.initial.out)
-    × (sets l.initial.out 0 (sized_all l.old l.set (records_from l.old l.list l.count 0)) ≡ sets l.out (l.i * sized_width_of l.old) (sized_all l.old l.set (records_from l.old l.list (l.count - l.i) l.i))))
+    × (sets l.initial.out 0 (sized_all g.F.Form.is_old l.set (records_from g.F.Form.is_old l.list l.count 0)) ≡ sets l.out (l.i * sized_width_of g.F.Form.is_old) (sized_all g.F.Form.is_old l.set (records_from g.F.Form.is_old l.list (l.count - l.i) l.i))))
 
 abbrev pub decreases-loop-i : goal.decreases-loop-i
-decreases-loop-i l = l.count - l.i
+decreases-loop-i g l = l.count - l.i

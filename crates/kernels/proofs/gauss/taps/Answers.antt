@@ -8,27 +8,12 @@ use Prim.Native.Nat.{◌≤◌, ◌<◌}
 use mathlib.Core.Path.{◌≡◌, refl, sym, ◌∙◌}
 use Rattle.kernels.proofs.gauss.taps.Goals as goal
 
-pub sum-total-requires : goal.sum-total-requires
-sum-total-requires c = omega arith
-
 pub loop-t-init : goal.loop-t-init
 unfolding taps_of
 loop-t-init c = (omega arith, (refl, refl))
 
 pub tap-requires : goal.tap-requires
 tap-requires c = (omega arith, omega arith, c.sum-total.ensures)
-
-pub offset_bounds-a-t : goal.offset_bounds-a-t
-offset_bounds-a-t c = omega arith
-
-pub bounds-a-t : goal.bounds-a-t
-bounds-a-t c = omega arith
-
-pub overflow_add-t : goal.overflow_add-t
-overflow_add-t c = omega arith
-
-pub loop-t-smaller : goal.loop-t-smaller
-loop-t-smaller c = omega arith
 
 pub loop-t-preserved : goal.loop-t-preserved
 unfolding taps_of

@@ -25,39 +25,30 @@ turn w y f i lo hi h p q =
       subst (λ (a : ℕ). a < 2 ^ 21) (sym nf) (lt_of_lt_of_le (digits_lt w lo hi (i + 1)) (pow_mono le)),
     )
 
-pub loop-i-init : goal.loop-i-init
+pub loop-init : goal.loop-init
 unfolding squared digits_of
-loop-i-init c = (omega arith, refl, refl, omega arith, omega arith)
+loop-init c = (omega arith, refl, refl, omega arith, omega arith)
 
 pub overflow_mul-s : goal.overflow_mul-s
-overflow_mul-s c = record { fits = sq_lt c.loop-i.y c.loop-i.invariant.3 }
+overflow_mul-s c = record { fits = sq_lt c.loop.y c.loop.invariant.3 }
 
 pub overflow_add-y : goal.overflow_add-y
-overflow_add-y c = omega (arith, top_digit c.loop-i.y c.loop-i.invariant.3)
+overflow_add-y c = omega (arith, top_digit c.loop.y c.loop.invariant.3)
 
 pub overflow_shr-y : goal.overflow_shr-y
-overflow_shr-y c = omega (arith, top_digit c.loop-i.y c.loop-i.invariant.3)
-
-pub overflow_mul-f : goal.overflow_mul-f
-overflow_mul-f c = omega arith
+overflow_shr-y c = omega (arith, top_digit c.loop.y c.loop.invariant.3)
 
 pub overflow_add-f : goal.overflow_add-f
-overflow_add-f c = omega (arith, top_digit c.loop-i.y c.loop-i.invariant.3)
+overflow_add-f c = omega (arith, top_digit c.loop.y c.loop.invariant.3)
 
-pub overflow_add-i : goal.overflow_add-i
-overflow_add-i c = omega arith
-
-pub loop-i-smaller : goal.loop-i-smaller
-loop-i-smaller c = omega arith
-
-pub loop-i-preserved : goal.loop-i-preserved
-loop-i-preserved c =
-    let l = c.loop-i in
+pub loop-preserved : goal.loop-preserved
+loop-preserved c =
+    let l = c.loop in
     let p = c.requires in
-    turn c.args.w l.y l.f l.i p.0 p.1 c.loop-i-test.true l.invariant.1 l.invariant.2
+    turn c.args.w l.y l.f l.counter p.0 p.1 c.loop-test.true l.invariant.1 l.invariant.2
 
 pub returns : goal.returns
 returns c =
-    let l = c.loop-i in
-    let e : l.i ≡ 21 = omega arith in
+    let l = c.loop in
+    let e : l.counter ≡ 21 = omega arith in
     (l.invariant.2 ∙ ap (λ (k : ℕ). digits_of k c.args.w) e, l.invariant.4)

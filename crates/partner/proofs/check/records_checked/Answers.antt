@@ -5,7 +5,6 @@ use lib.Dec.{eqb}
 use lib.ListN.{length}
 use Rattle.record.specs.Layout.{spot_width}
 use Rattle.tables.specs.Refusal.{unless, first_of}
-use borrow.Author.Rules.{rules}
 use Rattle.partner.proofs.check.records_checked.Goals as goal
 
 pub returns-then-not-whole : goal.returns-then-not-whole

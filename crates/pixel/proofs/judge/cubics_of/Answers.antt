@@ -12,7 +12,7 @@ use Rattle.pixel.proofs.judge.cubics_of.Goals as goal
 
 pub loop-i-init : goal.loop-i-init
 unfolding cubics_of
-loop-i-init c = (omega arith, (refl, refl))
+loop-i-init c = (refl, refl)
 
 pub offset_bounds-nine-i : goal.offset_bounds-nine-i
 offset_bounds-nine-i c = omega arith
@@ -26,9 +26,6 @@ offset_bounds-k-i c = omega arith
 pub bounds-k-i : goal.bounds-k-i
 bounds-k-i c = omega arith
 
-pub overflow_add-i : goal.overflow_add-i
-overflow_add-i c = omega arith
-
 pub loop-i-smaller : goal.loop-i-smaller
 loop-i-smaller c = omega arith
 
@@ -38,7 +35,7 @@ loop-i-preserved c =
     let long : length c.args.nine ≡ 9 = c.well_formed.1.0.1.0.1 in
     let below : l.i < length l.k = omega arith in
     let inside : l.i < length c.args.nine = omega arith in
-    (omega arith, (simp length-set l.invariant.1.0, rw (add-one, take-suc-set l.k l.i c.apply_cubic_transform-c.result below, l.invariant.1.1, c.apply_cubic_transform-c.ensures, take-suc c.args.nine l.i [] inside, cubics_snoc)))
+    (simp length-set l.invariant.0, rw (add-one, take-suc-set l.k l.i c.apply_cubic_transform-c.result below, l.invariant.1, c.apply_cubic_transform-c.ensures, take-suc c.args.nine l.i [] inside, cubics_snoc))
 
 pub returns : goal.returns
 returns c =
@@ -46,4 +43,4 @@ returns c =
     let long : length c.args.nine ≡ 9 = c.well_formed.1.0.1.0.1 in
     let all : length l.k ≤ l.i = omega arith in
     let places : length c.args.nine ≤ l.i = omega arith in
-    sym (take_all l.i l.k all) ∙ l.invariant.1.1 ∙ rw (take_all l.i c.args.nine places)
+    sym (take_all l.i l.k all) ∙ l.invariant.1 ∙ rw (take_all l.i c.args.nine places)

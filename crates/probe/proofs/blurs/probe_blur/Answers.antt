@@ -2,6 +2,7 @@
 use mathlib.Core.Path.{sym, ◌∙◌}
 use Rattle.probe.specs.Blurs.{blur_face}
 use Rattle.probe.proofs.Fitting.{fits, level_start}
+use Rattle.probe.proofs.Numbers.{seventeen_taken}
 use borrow.Author.Rules.{rules}
 use Rattle.probe.proofs.blurs.probe_blur.Goals as goal
 
@@ -22,4 +23,4 @@ returns c =
     let made = c.two_levels.ensures in
     let x = level_start _ _ _ _ _ p.room_a made.0 in
     let y = level_start _ _ _ _ _ p.room_b made.1 in
-    rw (none, ← c.seventeen.ensures, ← c.seventeen-2.ensures, x, y)
+    rw (none, ← seventeen_taken c.args.taps.now, ← seventeen_taken c.args.taps2.now, ← c.numbers.ensures, ← c.numbers-2.ensures, x, y)

@@ -3,10 +3,10 @@ use Rattle.probe.specs.Probe.{number_of}
 use borrow.Author.Rules.{rules}
 use Rattle.probe.proofs.parts.number_of.Goals as goal
 
-pub returns-in-Value : goal.returns-in-Value
+pub returns-in-Ok : goal.returns-in-Ok
 unfolding number_of
-returns-in-Value c = search rules
+returns-in-Ok c = search rules
 
-pub returns-in-Absent : goal.returns-in-Absent
+pub returns-in-Err : goal.returns-in-Err
 unfolding number_of
-returns-in-Absent c = rw (c.in-Absent.is, ← c.minus.ensures)
+returns-in-Err c = rw (c.in-Err.is, ← c.minus.ensures)

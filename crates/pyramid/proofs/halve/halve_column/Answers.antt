@@ -9,32 +9,8 @@ pub loop-r-init : goal.loop-r-init
 unfolding list_of
 loop-r-init c = (omega arith, stored-none)
 
-pub overflow_mul-out : goal.overflow_mul-out
-overflow_mul-out c = omega arith
-
-pub overflow_add-out : goal.overflow_add-out
-overflow_add-out c = omega arith
-
-pub offset_bounds-level-p : goal.offset_bounds-level-p
-offset_bounds-level-p c = omega arith
-
-pub bounds-level-p : goal.bounds-level-p
-bounds-level-p c = omega arith
-
-pub overflow_add-out-in-loop-r : goal.overflow_add-out-in-loop-r
-overflow_add-out-in-loop-r c = omega arith
-
-pub offset_bounds-out-at : goal.offset_bounds-out-at
-offset_bounds-out-at c = omega arith
-
 pub bounds-out-at : goal.bounds-out-at
 bounds-out-at c = omega (arith, stored-length c.loop-r.invariant.1)
-
-pub overflow_add-r : goal.overflow_add-r
-overflow_add-r c = omega arith
-
-pub loop-r-smaller : goal.loop-r-smaller
-loop-r-smaller c = omega arith
 
 pub loop-r-preserved : goal.loop-r-preserved
 loop-r-preserved c = (omega arith, stored_next _ c.loop-r.invariant.1 refl)

@@ -31,12 +31,6 @@ halve_column-requires c =
     let inside = column_inside c.loop-c.c c.requires c.loop-c-test.true in
     record { n_in_bounds = inside.0; n_in_bounds_2 = omega (arith, inside.1, stored-length c.loop-c.invariant.1) }
 
-pub overflow_add-c : goal.overflow_add-c
-overflow_add-c c = omega arith
-
-pub loop-c-smaller : goal.loop-c-smaller
-loop-c-smaller c = omega arith
-
 pub loop-c-preserved : goal.loop-c-preserved
 unfolding columns_of pixel_at
 loop-c-preserved c =

@@ -1,32 +1,33 @@
--- `octaves::octaves` meets its contract: each return follows from the tests on the way to it.
-use borrow.Author.Tests.{lt-ltb, le-ltb, le-leb, lt-leb}
+-- `octaves::octaves` meets its contract: each return follows from the range of its arm.
+use native.Mathlib.Omega.{arith}
+use Rattle.std.proofs.lemmas.Bool.Decides.{nat_tests}
 use Rattle.pyramid.specs.Pyramid.{octaves_of}
 use Rattle.pyramid.proofs.octaves.octaves.Goals as goal
 
-pub returns-then-side-lt10 : goal.returns-then-side-lt10
+pub returns-in-0-to-9 : goal.returns-in-0-to-9
 unfolding octaves_of
-returns-then-side-lt10 c = rw (lt-ltb _ _ c.if-side-lt10.true)
+returns-in-0-to-9 c = grind (arith, nat_tests)
 
-pub returns-then-side-le64 : goal.returns-then-side-le64
+pub returns-in-10-to-64 : goal.returns-in-10-to-64
 unfolding octaves_of
-returns-then-side-le64 c = rw (le-ltb _ _ c.if-side-lt10.false, le-leb _ _ c.if-side-le64.true)
+returns-in-10-to-64 c = grind (arith, nat_tests)
 
-pub returns-then-side-le128 : goal.returns-then-side-le128
+pub returns-in-65-to-128 : goal.returns-in-65-to-128
 unfolding octaves_of
-returns-then-side-le128 c = rw (le-ltb _ _ c.if-side-lt10.false, lt-leb _ _ c.if-side-le64.false, le-leb _ _ c.if-side-le128.true)
+returns-in-65-to-128 c = grind (arith, nat_tests)
 
-pub returns-then-side-le256 : goal.returns-then-side-le256
+pub returns-in-129-to-256 : goal.returns-in-129-to-256
 unfolding octaves_of
-returns-then-side-le256 c = rw (le-ltb _ _ c.if-side-lt10.false, lt-leb _ _ c.if-side-le64.false, lt-leb _ _ c.if-side-le128.false, le-leb _ _ c.if-side-le256.true)
+returns-in-129-to-256 c = grind (arith, nat_tests)
 
-pub returns-then-side-le512 : goal.returns-then-side-le512
+pub returns-in-257-to-512 : goal.returns-in-257-to-512
 unfolding octaves_of
-returns-then-side-le512 c = rw (le-ltb _ _ c.if-side-lt10.false, lt-leb _ _ c.if-side-le64.false, lt-leb _ _ c.if-side-le128.false, lt-leb _ _ c.if-side-le256.false, le-leb _ _ c.if-side-le512.true)
+returns-in-257-to-512 c = grind (arith, nat_tests)
 
-pub returns-then-side-le1024 : goal.returns-then-side-le1024
+pub returns-in-513-to-1024 : goal.returns-in-513-to-1024
 unfolding octaves_of
-returns-then-side-le1024 c = rw (le-ltb _ _ c.if-side-lt10.false, lt-leb _ _ c.if-side-le64.false, lt-leb _ _ c.if-side-le128.false, lt-leb _ _ c.if-side-le256.false, lt-leb _ _ c.if-side-le512.false, le-leb _ _ c.if-side-le1024.true)
+returns-in-513-to-1024 c = grind (arith, nat_tests)
 
-pub returns : goal.returns
+pub returns-in_default : goal.returns-in_default
 unfolding octaves_of
-returns c = rw (le-ltb _ _ c.if-side-lt10.false, lt-leb _ _ c.if-side-le64.false, lt-leb _ _ c.if-side-le128.false, lt-leb _ _ c.if-side-le256.false, lt-leb _ _ c.if-side-le512.false, lt-leb _ _ c.if-side-le1024.false)
+returns-in_default c = grind (arith, nat_tests)

@@ -5,15 +5,15 @@ use Rattle.columns.proofs.LineLaws.{written_none, written_next}
 use Rattle.rivals.proofs.pack.open_line.Goals as goal
 
 pub loop-i-init : goal.loop-i-init
-loop-i-init c = (omega arith, written_none 0 _ 0 _)
+loop-i-init c = written_none 0 _ 0 _
 
 pub loop-i-preserved : goal.loop-i-preserved
 loop-i-preserved c =
     let l = c.loop-i in
-    (omega arith, written_next 0 c.is_unsure.result l.invariant.1 (omega (arith, c.requires.keep_len)) c.is_unsure.ensures)
+    written_next 0 c.is_unsure.result l.invariant (omega arith) c.is_unsure.ensures
 
 pub returns : goal.returns
 returns c =
     let l = c.loop-i in
     let e : 256 ≡ l.i = omega (arith, c.loop-i-test.false) in
-    rw e l.invariant.1
+    rw e l.invariant

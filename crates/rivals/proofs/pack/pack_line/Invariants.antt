@@ -1,10 +1,6 @@
 -- `pack::pack_line` meets its contract. The loop's invariant: the codes of the first i pixels are packed.
-use Prim.Native.Nat.{◌≤◌, ◌-◌}
 use Rattle.rivals.specs.List.{Packed}
 use Rattle.rivals.proofs.pack.pack_line.Given as goal
 
 abbrev pub invariant-loop-i : goal.invariant-loop-i
-invariant-loop-i l = (l.i ≤ l.n) × Packed l.i l.y l.w l.codes l.m
-
-abbrev pub decreases-loop-i : goal.decreases-loop-i
-decreases-loop-i l = l.n - l.i
+invariant-loop-i l = Packed l.i l.y l.w l.codes l.m

@@ -64,13 +64,6 @@ returns-in_default c =
     let below : l.k < tiles_of tile_step a.rows * tiles_of tile_step a.cols = omega (arith, l.invariant.1, c.loop-k-test.true) in
     full-with (scene_maps a.set a.th a.rows a.cols a.octave a.l0.now a.l1.now a.l2.now a.l3.now) a.t0.now a.t1.now a.t2.now a.t3.now a.out.now l.k l.done l.t0 l.t1 l.t2 l.t3 l.out l.invariant.2 below _ c.tiles_of-across.ensures _ _ _ _ _ c.turn-told.result c.turn-told.ensures c.in_default.is
 
-pub overflow_add-k : goal.overflow_add-k
-overflow_add-k c =
-    let a = c.args in
-    let l = c.loop-k in
-    let below : l.k < tiles_of tile_step a.rows * tiles_of tile_step a.cols = omega (arith, l.invariant.1, c.loop-k-test.true) in
-    omega (arith, below, few_products a.rows a.cols c.requires.rows-most c.requires.cols-most)
-
 pub loop-k-smaller : goal.loop-k-smaller
 loop-k-smaller c = omega arith
 
@@ -79,7 +72,7 @@ loop-k-preserved c =
     let a = c.args in
     let l = c.loop-k in
     let below : l.k < tiles_of tile_step a.rows * tiles_of tile_step a.cols = omega (arith, l.invariant.1, c.loop-k-test.true) in
-    (l.invariant.0, l.invariant.1, next-with (scene_maps a.set a.th a.rows a.cols a.octave a.l0.now a.l1.now a.l2.now a.l3.now) a.t0.now a.t1.now a.t2.now a.t3.now a.out.now l.k l.done l.t0 l.t1 l.t2 l.t3 l.out l.invariant.2 below _ c.tiles_of-across.ensures _ _ _ _ _ c.turn-told.result c.turn-told.ensures _ c.in-WholeTile.is)
+    (l.invariant.0, l.invariant.1, next-with (scene_maps a.set a.th a.rows a.cols a.octave a.l0.now a.l1.now a.l2.now a.l3.now) a.t0.now a.t1.now a.t2.now a.t3.now a.out.now l.k l.done l.t0 l.t1 l.t2 l.t3 l.out l.invariant.2 below _ c.tiles_of-across.ensures _ _ _ _ _ c.turn-told.result c.turn-told.ensures _ c.in-Some.is)
 
 pub shape_of-t0 : goal.shape_of-t0
 shape_of-t0 c = c.loop-k.invariant.2.same0

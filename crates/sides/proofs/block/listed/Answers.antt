@@ -1,10 +1,10 @@
 -- `block::listed` meets its contract: opened, packed, thinned by its own lines and by the cubics gathered beside them, and raised one after the other.
-use mathlib.Core.Path.{◌∙◌}
+use borrow.Author.Rules.{rules}
 use native.Mathlib.Omega.{arith}
-use Rattle.samples.specs.Four.{four_of}
+use Rattle.samples.specs.Map.{four_in}
 use Rattle.nine.specs.Nine.{three_of}
 use Rattle.sides.proofs.LeftLaws.{opened_plain, left-listed}
-use Rattle.sides.proofs.BlockLaws.{four_long, own_same, before_stand, after_stand}
+use Rattle.sides.proofs.BlockLaws.{own_same, before_stand, after_stand}
 use Rattle.sides.proofs.block.listed.Goals as goal
 
 pub fill_list-requires : goal.fill_list-requires
@@ -12,20 +12,20 @@ fill_list-requires c =
     let own = c.own_list-k.ensures in
     let pack = c.pack_line-m.ensures in
     let pre = c.requires in
-    record { spans = pre.beside.before; n_bound = (pre.n_bound.0, omega (arith, pack.few, own.few, pre.n_bound.0)); z_bound = (omega arith, four_long pre.rings) }
+    record { spans = pre.beside.before; n_bound = (pre.n_bound, omega (arith, pack.few, own.few, pre.n_bound)); z_bound = omega arith }
 
 pub fill_list-requires-2 : goal.fill_list-requires-2
 fill_list-requires-2 c =
     let own = c.own_list-k.ensures in
     let pack = c.pack_line-m.ensures in
     let pre = c.requires in
-    record { spans = pre.beside.after; n_bound = (pre.n_bound.0, omega (arith, pack.few, own.few, pre.n_bound.0)); z_bound = (omega arith, c.fill_list.ensures.long) }
+    record { spans = pre.beside.after; n_bound = (pre.n_bound, omega (arith, pack.few, own.few, pre.n_bound)); z_bound = omega arith }
 
 pub side_list-o-requires : goal.side_list-o-requires
 side_list-o-requires c =
     let own = c.own_list-k.ensures in
     let pack = c.pack_line-m.ensures in
-    record { k_bound = omega (arith, pack.few, own.few, c.requires.n_bound.0); codes_len = (own.long ∙ pack.long, own.coded) }
+    record { k_bound = omega (arith, pack.few, own.few, c.requires.n_bound); coded = own.coded }
 
 pub accept_list-requires : goal.accept_list-requires
 accept_list-requires c =
@@ -33,17 +33,17 @@ accept_list-requires c =
     let own = c.own_list-k.ensures in
     let pack = c.pack_line-m.ensures in
     let pre = c.requires in
-    record { k_bound = omega (arith, pack.few, own.few, side.few, pre.n_bound.0); keep_len = (c.open_line.ensures.long ∙ pre.n_bound.1, side.coded) }
+    record { k_bound = omega (arith, pack.few, own.few, side.few, pre.n_bound); coded = side.coded }
 
 pub returns : goal.returns
 unfolding three_of
 returns c =
     let a = c.args in
-    let few = c.requires.n_bound.0 in
+    let few = c.requires.n_bound in
     let left = c.fill_list.ensures in
     let right = c.fill_list-2.ensures in
-    let three = three_of (four_of a.r0.now a.r1.now a.r2.now a.r3.now) (four_of a.c0.now a.c1.now a.c2.now a.c3.now) a.u a.x a.y a.z a.t a.set.sigmas in (
-      left-listed a.set a.th three a.n _ _ _ _ _ _ a.w.now _ _ few c.requires.n_bound.1 c.requires.slot (opened_plain a.w.now c.open_line.ensures) _ _ _ _ _ _ _ _ _ _ _
+    let three = three_of (four_in a.ring.now) (four_in a.next.now) a.u a.x a.y a.z a.t a.set.sigmas in (
+      left-listed a.set a.th three a.n _ _ _ _ _ _ a.w.now _ _ few (search rules) c.requires.slot (opened_plain a.w.now c.open_line.ensures) _ _ _ _ _ _ _ _ _ _ _
           c.pack_line-m.ensures c.own_list-k.ensures (own_same a.set few left right) (before_stand a.set few left right) (after_stand a.set few left right) c.side_list-o.ensures c.accept_list.ensures,
       right.long,
     )

@@ -2,10 +2,10 @@
 use Rattle.size.specs.Correct.{beta_of}
 use Rattle.size.proofs.anchor.profile_beta_from_statistic.Goals as goal
 
-pub returns-in-Value : goal.returns-in-Value
+pub returns-in-Ok : goal.returns-in-Ok
 unfolding beta_of
-returns-in-Value c = rw c.in-Value.is c.blend.ensures
+returns-in-Ok c = rw c.in-Ok.is c.blend.ensures
 
-pub returns-in-Absent : goal.returns-in-Absent
+pub returns-in-Err : goal.returns-in-Err
 unfolding beta_of
-returns-in-Absent c = rw c.in-Absent.is
+returns-in-Err c = rw c.in-Err.is

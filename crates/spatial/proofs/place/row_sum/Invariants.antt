@@ -8,6 +8,3 @@ use Rattle.spatial.proofs.place.row_sum.Given as goal
 
 abbrev pub invariant-loop-i : goal.invariant-loop-i
 invariant-loop-i l = (l.i ≤ 9) × (sum_from (9 - l.i) l.i l.acc (λ j. l.w at (l.base + j) ⊗ l.v at j) ≡ sum_from 9 0 f0 (λ j. l.w at (l.block + 9 * l.row + j) ⊗ l.v at j))
-
-abbrev pub decreases-loop-i : goal.decreases-loop-i
-decreases-loop-i l = 9 - l.i

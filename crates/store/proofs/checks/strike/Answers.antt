@@ -1,4 +1,5 @@
 -- `checks::strike` meets its contract.
+use Rattle.std.proofs.lemmas.Result.{err_from_is_err_and}
 use borrow.Author.Tests.{not-true, not-false}
 use mathlib.Core.Path.{◌≡◌, sym, ◌∙◌}
 use mathlib.Core.Bool.{true, false}
@@ -12,21 +13,22 @@ pub returns-then-not-is_live : goal.returns-then-not-is_live
 unfolding first_of unless
 returns-then-not-is_live c =
     let a = c.args in
-    let fine = sym c.close_up-check.ensures ∙ c.in-Fine.is in
+    let fine = sym c.close_up.ensures ∙ c.in_ok-close_up.was in
     let live = c.is_live in
     let free : is_free (get_or (slots_of a.b.now) a.i free_bytes) ≡ true = not-false _ (sym live.ensures ∙ c.if-not-is_live.true) in
     rw (strike_over a.rows a.cols a.b.now a.i fine, free)
 
-pub returns-in-Bad : goal.returns-in-Bad
-returns-in-Bad c =
+pub returns-in_err-close_up : goal.returns-in_err-close_up
+returns-in_err-close_up c =
     let a = c.args in
-    sym (strike_stops a.rows a.cols a.b.now a.i _ (sym c.close_up-check.ensures ∙ c.in-Bad.is))
+    let p = err_from_is_err_and c.from_residual.result c.from_residual.ensures.1 in
+    rw (p.1, p.2) (sym (strike_stops a.rows a.cols a.b.now a.i _ (sym c.close_up.ensures ∙ c.in_err-close_up.was)))
 
-pub returns-else-not-is_live : goal.returns-else-not-is_live
+pub returns : goal.returns
 unfolding first_of unless
-returns-else-not-is_live c =
+returns c =
     let a = c.args in
-    let fine = sym c.close_up-check.ensures ∙ c.in-Fine.is in
+    let fine = sym c.close_up.ensures ∙ c.in_ok-close_up.was in
     let live = c.is_live in
     let held : is_free (get_or (slots_of a.b.now) a.i free_bytes) ≡ false = not-true _ (sym live.ensures ∙ c.if-not-is_live.false) in
     rw (strike_over a.rows a.cols a.b.now a.i fine, held)

@@ -12,12 +12,6 @@ move_down-n-requires c =
     let l = c.loop-i in
     record { whole = rw l.invariant.1.long c.requires; i_in_bounds = omega (arith, l.invariant.1.long); n_le_i = l.invariant.1.low }
 
-pub overflow_add-i : goal.overflow_add-i
-overflow_add-i c = omega arith
-
-pub loop-i-smaller : goal.loop-i-smaller
-loop-i-smaller c = omega arith
-
 pub loop-i-preserved : goal.loop-i-preserved
 loop-i-preserved c =
     let l = c.loop-i in

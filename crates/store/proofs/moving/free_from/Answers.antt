@@ -13,19 +13,10 @@ use Rattle.store.proofs.moving.free_from.Goals as goal
 pub loop-k-init : goal.loop-k-init
 loop-k-init c = (refl, refl)
 
-pub overflow_mul-k : goal.overflow_mul-k
-overflow_mul-k c = omega arith
-
 pub put_first-requires : goal.put_first-requires
 put_first-requires c =
     let l = c.loop-k in
     record { n_in_bounds = omega (arith, ap length c.free_bytes-free.ensures, length-free); n_in_bounds_2 = omega (arith, l.invariant.0) }
-
-pub overflow_add-k : goal.overflow_add-k
-overflow_add-k c = omega arith
-
-pub loop-k-smaller : goal.loop-k-smaller
-loop-k-smaller c = omega arith
 
 pub loop-k-preserved : goal.loop-k-preserved
 loop-k-preserved c =

@@ -1,13 +1,8 @@
 -- `moving::free_from` meets its contract.
-use Prim.Native.Nat.{◌-◌, ◌/◌}
 use mathlib.Core.Path.{◌≡◌}
 use lib.ListN.{length}
-use Rattle.record.specs.Layout.{spot_width}
 use Rattle.store.specs.Steps.{freed}
 use Rattle.store.proofs.moving.free_from.Given as goal
 
 abbrev pub invariant-loop-k : goal.invariant-loop-k
 invariant-loop-k l = (length l.b ≡ length l.initial.b) × (freed l.initial.b l.i ≡ freed l.b l.k)
-
-abbrev pub decreases-loop-k : goal.decreases-loop-k
-decreases-loop-k l = length l.initial.b / spot_width - l.k

@@ -11,12 +11,6 @@ use Rattle.store_slots.proofs.search.is_live.Goals as goal
 pub returns-then-b-i : goal.returns-then-b-i
 returns-then-b-i c = let a = c.args in rw (past-free a.b.now a.i (omega (arith, c.if-b-i.true)))
 
--- part-is-free-start : tie.Need-slice-bounds-is-free-start
--- part-is-free-start c = search rules
-
--- part-is-free-end : tie.Need-slice-bounds-is-free-end
--- part-is-free-end c = search rules
-
 pub returns : goal.returns
 returns c =
     let a = c.args in

@@ -1,15 +1,13 @@
 -- `pass::mark` meets its contract.
-use Prim.Native.Nat.{ℕ}
 use native.Mathlib.Omega.{arith}
-use lib.ListN.{length-replicate}
 use Rattle.sweep.proofs.PassLaws.{passed-by}
 use Rattle.sweep.proofs.pass.mark.Goals as goal
 
 pub thin-requires : goal.thin-requires
-thin-requires c = let p = c.requires in record { x_bound = p.x_bound; z_bound = (p.z_bound.0, omega (arith, p.z_bound.1)); keep_len = (length-replicate {A = ℕ} 256 0, λ i h. p.by_index i (omega arith)) }
+thin-requires c = let p = c.requires in record { x_bound = p.x_bound; z_bound = (p.z_bound.0, omega (arith, p.z_bound.1)); by_index = λ i h. p.by_index i (omega arith) }
 
 pub put_line-requires : goal.put_line-requires
-put_line-requires c = let p = c.requires in record { col_bound = p.col_bound.0; by_index = c.thin.ensures.bits; marks_len = p.col_bound.1 }
+put_line-requires c = let p = c.requires in record { col_bound = p.col_bound; by_index = c.thin.ensures.bits }
 
 pub returns : goal.returns
 returns c =

@@ -42,9 +42,6 @@ place_record-requires c =
       placed = rw (reads_next a.set a.i a.j a.out.now a.base a.n l.out l.k l.invariant.1) (p.placed l.k below);
     }
 
-pub overflow_add-k : goal.overflow_add-k
-overflow_add-k c = omega arith
-
 pub loop-k-smaller : goal.loop-k-smaller
 loop-k-smaller c = omega arith
 

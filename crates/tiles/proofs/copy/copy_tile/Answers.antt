@@ -31,9 +31,6 @@ copy_column-requires c =
     let long = ap length l.invariant.1 ∙ length-sets a.out.now 0 (tile_level a.level.now a.rows a.r0 a.c0 a.h l.c) in
     record { n_in_bounds = inside.0; n_in_bounds_2 = omega (arith, inside.1) }
 
-pub overflow_add-c : goal.overflow_add-c
-overflow_add-c c = omega arith
-
 pub loop-c-smaller : goal.loop-c-smaller
 loop-c-smaller c = omega arith
 

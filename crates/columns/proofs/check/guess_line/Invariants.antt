@@ -1,9 +1,0 @@
--- `check::guess_line` meets its contract, that it is safe.
-use Prim.Native.Nat.{◌≤◌, ◌-◌}
-use Rattle.columns.proofs.check.guess_line.Given as goal
-
-abbrev pub invariant-loop-i : goal.invariant-loop-i
-invariant-loop-i l = l.i ≤ l.n
-
-abbrev pub decreases-loop-i : goal.decreases-loop-i
-decreases-loop-i l = l.n - l.i

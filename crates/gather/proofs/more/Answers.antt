@@ -1,7 +1,0 @@
--- `more` meets its contract.
-use mathlib.Core.Path.{refl}
-use Rattle.gather.proofs.StepLaws.{each-listed}
-use Rattle.gather.proofs.more.Goals as goal
-
-pub returns : goal.returns
-returns c = each-listed _ refl refl refl refl
