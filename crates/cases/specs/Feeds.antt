@@ -8,14 +8,14 @@ use Rattle.tables.specs.Refusal.{number}
 use Rattle.tables.specs.SetT.{set_t}
 use Rattle.samples.specs.Four.{Four, four_of}
 use Rattle.ring.specs.declared.State.{State}
-use Rattle.feed.specs.Feed.{start_of, opened, column_of}
+use Rattle.feed.specs.Feed.{start_of, said, opened, column_of}
 use Rattle.fed.specs.Run.{Call, bytes_after, state_after}
 use Rattle.cases.specs.Case.{Case}
 use Rattle.cases.specs.MapM.{zeros, put, level_m, thresholds_m, of_checked}
 
 -- what start's checks say of a map of these sides in this octave, with these thresholds and this set, and with a ring of which each slice has n floats
 unfoldable pub start_case : ℕ → ℕ → ℕ → Thresholds → Set → ℕ → List ℕ → Case
-start_case rows cols octave th s n due = record { given = of_checked (start_of s th rows cols octave n n n n); due = due }
+start_case rows cols octave th s n due = record { given = of_checked (said (start_of s th rows cols octave n n n n)); due = due }
 
 -- column c of a level of 9 rows
 unfoldable pub column_m : List Float → ℕ → List Float

@@ -1,6 +1,7 @@
 -- What the faces share: a number with its value, what a call leaves, the thresholds as one value, and an answer as a number and a value. Definitions only.
 use Rattle.std.specs.Prelude.{ℕ, List, Float, Result, Ok, Err}
 use Rattle.tables.specs.declared.Set.{Set}
+use Rattle.tables.specs.declared.Unread.{Unread}
 use Rattle.tables.specs.declared.Thresholds.{Thresholds}
 use Rattle.tables.specs.declared.Refusal.{Refusal}
 use Rattle.tables.specs.Refusal.{number, value}
@@ -38,6 +39,7 @@ answer_value (Err w) = value w
 abbrev pub answer_packed : Result ℕ Refusal → Packed
 answer_packed a = record { number = answer_number a; value = answer_value a }
 
--- the number of a check
-abbrev pub check_face : Result Set Refusal → ℕ
-check_face = answer_number
+-- the number of a record's reading: 0, or that of the refusal
+abbrev pub check_face : Result Set Unread → ℕ
+check_face (Ok _) = 0
+check_face (Err w) = number w.why

@@ -34,5 +34,8 @@ pub fn value_of(answer: Result<usize, Refusal>) -> u64
 pub fn set_check(set: &[u8]) -> u32
     ensures { result ≡ check_face (read_set_of set.now) }
 {
-    number_of(&tables::read_set(set))
+    let Err(unread) = tables::read_set(set) else {
+        return 0;
+    };
+    u32::from(unread.why)
 }

@@ -1,8 +1,7 @@
 -- When a call is refused, and by what: the first of its checks that holds, by their places. Assumes nothing.
-use Rattle.std.specs.Prelude.{Result, Ok, Err, ⊤}
-use Rattle.std.specs.Result.{result_and}
+use Rattle.std.specs.Prelude.{true, Result, Ok, Err, ⊤}
 use Prim.Native.Nat.{ℕ, ◌*◌, ◌≤◌}
-use mathlib.Core.Path.{◌≡◌, sym, ap, ◌∙◌}
+use mathlib.Core.Path.{◌≡◌, refl, sym, ap, ◌∙◌}
 use mathlib.Core.List.{List}
 use mathlib.Core.Logic.{◌↔◌}
 use lib.Dec.{leb}
@@ -16,24 +15,31 @@ use Rattle.tables.proofs.RefusalLaws.{first-refused, refused-first}
 use Rattle.ring.specs.declared.State.{State}
 use Rattle.samples.specs.Four.{Four}
 use Rattle.ring.specs.Ring.{judged_spots}
-use Rattle.feed.specs.Feed.{start_checks, start_of, past, column_checks, fed_by, column_of}
+use Rattle.feed.specs.declared.Unstarted.{Unstarted}
+use Rattle.feed.specs.Feed.{start_checks, started_by, start_of, not_started, said, past, column_checks, fed_by, column_of}
 use Rattle.ring.proofs.SpotsLaws.{judged-short}
 use Rattle.feed.proofs.FeedLaws.{start-answer}
 
 -- ---- start
 
 module _ (set : Set) (th : Thresholds) (rows cols octave n0 n1 n2 n3 : ℕ) where
-  refused_by : (w : Result State Refusal) (r : Refusal) → ◌≡◌ {A = Result ⊤ Refusal} (result_and w (Ok tt)) (Err r) → w ≡ Err r
-  refused_by (Err q) r e = let same : q ≡ r = cc in rw same
-  refused_by (Ok s) r e = cc
-
-  -- Start refuses with r exactly when of its checks, in the order 1, 3, 8, 4, 6, that one is the first that holds.
-  pub start_refuses : (r : Refusal) → (start_of set th rows cols octave n0 n1 n2 n3 ≡ Err r) ↔ First (start_checks set th rows cols octave n0 n1 n2 n3) r
+  -- Start refuses with r, and with the state of no rows and no cols beside it, exactly when of its checks, in the order 1, 3, 8, 4, 6, that one is the first that holds.
+  pub start_refuses : (r : Refusal) → (start_of set th rows cols octave n0 n1 n2 n3 ≡ Err (not_started set th r)) ↔ First (start_checks set th rows cols octave n0 n1 n2 n3) r
+  unfolding start_of started_by
   start_refuses r =
       let is = start-answer set th rows cols octave n0 n1 n2 n3 in (
-        λ e. first-refused (start_checks set th rows cols octave n0 n1 n2 n3) r (sym is ∙ ap (λ (x : Result State Refusal). result_and x (Ok tt)) e),
-        λ f. refused_by _ r (is ∙ refused-first (start_checks set th rows cols octave n0 n1 n2 n3) r f),
+        λ e. first-refused (start_checks set th rows cols octave n0 n1 n2 n3) r (sym is ∙ ap said e),
+        λ f. rw (refused-first (start_checks set th rows cols octave n0 n1 n2 n3) r f),
       )
+
+  -- No other refusal is answered, and the state beside it takes no column.
+  pub start_refused : (w : Unstarted) → start_of set th rows cols octave n0 n1 n2 n3 ≡ Err w → (w ≡ not_started set th w.why) × (past w.state ≡ true)
+  unfolding start_of started_by past
+  start_refused w = go (first_of (start_checks set th rows cols octave n0 n1 n2 n3))
+    where
+      go : (v : Result ⊤ Refusal) → started_by v set th rows cols octave ≡ Err w → (w ≡ not_started set th w.why) × (past w.state ≡ true)
+      go (Err r) e = let same : not_started set th r ≡ w = cc in rw (← same) (refl, refl)
+      go (Ok _) e = cc
 
 -- ---- a column
 

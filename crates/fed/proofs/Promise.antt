@@ -28,6 +28,7 @@ use Rattle.demands.proofs.Judge.{judged_admits}
 use Rattle.demands.proofs.TwoMaps.{two_maps}
 use Rattle.ring.specs.declared.State.{State}
 use Rattle.samples.specs.Four.{Four, four_of}
+use Rattle.feed.specs.declared.Unstarted.{Unstarted}
 use Rattle.feed.specs.Feed.{After, after, start_checks, started_by, start_of, opened, column_of}
 use Rattle.fed.specs.Held.{map_of, Held}
 use Rattle.fed.specs.Run.{Call, state_after, bytes_after, levels_after, with}
@@ -38,8 +39,8 @@ use Rattle.fed.proofs.RunLaws.{FeedsAll, run_bytes, level_follows, level_long}
 
 -- ---- one value for each call
 
--- Two answers of start that the promise allows are equal, the state that they hold too.
-pub start-only-one : (set : Set) (th : Thresholds) (rows cols octave n0 n1 n2 n3 : ℕ) (r r' : Result State Refusal)
+-- Two answers of start that the promise allows are equal, the state that they hold, or that stands beside a refusal, too.
+pub start-only-one : (set : Set) (th : Thresholds) (rows cols octave n0 n1 n2 n3 : ℕ) (r r' : Result State Unstarted)
     → r ≡ start_of set th rows cols octave n0 n1 n2 n3 → r' ≡ start_of set th rows cols octave n0 n1 n2 n3 → r ≡ r'
 start-only-one set th rows cols octave n0 n1 n2 n3 r r' p q = p ∙ sym q
 

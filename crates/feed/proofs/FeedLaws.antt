@@ -1,6 +1,5 @@
 -- What a column's checks say, and what the code leaves of a column that it takes. Assumes nothing.
 use Rattle.std.specs.Prelude.{Result, Ok, Err, ⊤}
-use Rattle.std.specs.Result.{result_and}
 use Prim.Native.Nat.{ℕ, ◌-◌, ◌*◌, ◌≤◌, ◌<◌}
 use native.Mathlib.Nat.{zero-add}
 use native.Mathlib.Omega.{arith}
@@ -26,7 +25,7 @@ use Rattle.ring.specs.declared.State.{State}
 use Rattle.samples.specs.Four.{Four, four_of}
 use Rattle.ring.specs.Ring.{column_spots, judged_spots, kept, stored}
 use Rattle.ring.specs.Lent.{Roomy, Long, height_of}
-use Rattle.feed.specs.Feed.{after, past, ring_check, start_checks, started_by, start_of, cramped, column_checks, refused, next, fed_by, column_of, output_of}
+use Rattle.feed.specs.Feed.{after, past, ring_check, start_checks, started_by, start_of, said, cramped, column_checks, refused, next, fed_by, column_of, output_of}
 use Rattle.ring.proofs.SpotsLaws.{judged-height}
 
 -- what a test that failed says
@@ -125,11 +124,11 @@ octave-most set th rows cols octave n0 n1 n2 n3 h =
     ltb-false 5 octave (unless-fine (octave_check octave).holds _ _ a.1).0
 
 -- what start answers is the first of its checks that holds
-pub start-answer : (set : Set) (th : Thresholds) (rows cols octave n0 n1 n2 n3 : ℕ) → result_and (start_of set th rows cols octave n0 n1 n2 n3) (Ok tt) ≡ first_of (start_checks set th rows cols octave n0 n1 n2 n3)
+pub start-answer : (set : Set) (th : Thresholds) (rows cols octave n0 n1 n2 n3 : ℕ) → said (start_of set th rows cols octave n0 n1 n2 n3) ≡ first_of (start_checks set th rows cols octave n0 n1 n2 n3)
 unfolding start_of started_by
 start-answer set th rows cols octave n0 n1 n2 n3 = go (first_of (start_checks set th rows cols octave n0 n1 n2 n3))
   where
-    go : (w : Result ⊤ Refusal) → result_and (started_by w set th rows cols octave) (Ok tt) ≡ w
+    go : (w : Result ⊤ Refusal) → said (started_by w set th rows cols octave) ≡ w
     go (Err r) = refl
     go (Ok _) = refl
 

@@ -11,6 +11,7 @@ use Rattle.record.specs.Layout.{spot_width, laid}
 use Rattle.ring.specs.declared.State.{State}
 use Rattle.samples.specs.Four.{Four}
 use Rattle.ring.specs.Ring.{judged_spots, stored}
+use Rattle.feed.specs.declared.Unstarted.{Unstarted}
 
 -- ---- start
 
@@ -27,14 +28,23 @@ start_checks set th rows cols octave n0 n1 n2 n3 =
 abbrev pub opened : Set → Thresholds → ℕ → ℕ → ℕ → State
 opened set th rows cols octave = record { set = set; thresholds = th; rows = rows; cols = cols; octave = octave; position = 0 }
 
+-- the state that takes no column stands beside a refusal
+abbrev pub not_started : Set → Thresholds → Refusal → Unstarted
+not_started set th r = record { why = r; state = opened set th 0 0 0 }
+
 -- a refusal opens no feed; otherwise the state before the first column is answered
-unfoldable pub started_by : Result ⊤ Refusal → Set → Thresholds → ℕ → ℕ → ℕ → Result State Refusal
-started_by (Err r) set th rows cols octave = Err r
+unfoldable pub started_by : Result ⊤ Refusal → Set → Thresholds → ℕ → ℕ → ℕ → Result State Unstarted
+started_by (Err r) set th rows cols octave = Err (not_started set th r)
 started_by (Ok _) set th rows cols octave = Ok (opened set th rows cols octave)
 
 -- the whole of start
-unfoldable pub start_of : Set → Thresholds → ℕ → ℕ → ℕ → ℕ → ℕ → ℕ → ℕ → Result State Refusal
+unfoldable pub start_of : Set → Thresholds → ℕ → ℕ → ℕ → ℕ → ℕ → ℕ → ℕ → Result State Unstarted
 start_of set th rows cols octave n0 n1 n2 n3 = started_by (first_of (start_checks set th rows cols octave n0 n1 n2 n3)) set th rows cols octave
+
+-- what an answer of start says of its checks: the refusal, or that none holds
+abbrev pub said : Result State Unstarted → Result ⊤ Refusal
+said (Err w) = Err w.why
+said (Ok _) = Ok tt
 
 -- ---- a column
 

@@ -13,6 +13,13 @@ use ring::State;
 use ring::column::Column;
 use tables::{Refusal, Set, Thresholds};
 
+// Why a feed was not begun; and in its state's place that of no rows and no cols, which takes no column.
+#[derive(Clone, Copy)]
+pub struct Unstarted {
+    pub why: Refusal,
+    pub state: State,
+}
+
 // A slice of the ring is shorter than five columns.
 fn ring_off(rows: usize, n0: usize, n1: usize, n2: usize, n3: usize) -> bool
     requires { rows ≤ 4096 }
@@ -71,7 +78,8 @@ fn open(set: Set, thresholds: Thresholds, rows: usize, cols: usize, octave: u8) 
     }
 }
 
-// Begins a feed of cols columns of rows floats. It writes nothing: the four slices of the ring are only measured.
+// Begins a feed of cols columns of rows floats. It writes nothing: the four slices of the ring are only measured. Beside a refusal stands a state that takes no
+// column.
 pub fn feed_start<'a>(
     set: Set,
     thresholds: Thresholds,
@@ -82,10 +90,10 @@ pub fn feed_start<'a>(
     r1: &'a [f32],
     r2: &'a [f32],
     r3: &'a [f32],
-) -> Result<State, Refusal>
+) -> Result<State, Unstarted>
     ensures { result ≡ start_of set thresholds rows cols octave (length r0.now) (length r1.now) (length r2.now) (length r3.now) }
 {
-    checked(
+    let check = checked(
         set,
         thresholds,
         rows,
@@ -95,8 +103,14 @@ pub fn feed_start<'a>(
         r1.len(),
         r2.len(),
         r3.len(),
-    )?;
-    Ok(open(set, thresholds, rows, cols, octave as u8))
+    );
+    match check {
+        Err(why) => Err(Unstarted {
+            why,
+            state: open(set, thresholds, 0, 0, 0),
+        }),
+        Ok(()) => Ok(open(set, thresholds, rows, cols, octave as u8)),
+    }
 }
 
 // All columns have come.

@@ -6,6 +6,7 @@ use prog.Memory.{Memory}
 use prog.Routine.{Routine}
 use types.Logic.{Logic}
 use contract.Monad.{Fun}
+use Rattle.fit.specs.contracts.pick as pick
 use Rattle.fit.specs.contracts.scale_fit.row as row
 use Rattle.fit.specs.contracts.scale_fit.sign_of as sign_of
 use Rattle.fit.specs.contracts.scale_fit.apply_cubic_transform as apply-cubic-transform
@@ -17,6 +18,7 @@ use Rattle.fit.specs.contracts.scale_fit.curvature as curvature
 use Rattle.fit.specs.contracts.scale_fit.bends as bends
 use Rattle.fit.specs.contracts.scale_fit.neighbor_scale_band as neighbor-scale-band
 use Rattle.fit.specs.contracts.scale_fit.band_extreme as band-extreme
+use Rattle.fit.specs.contracts.scale_fit.all_finite as all-finite
 use Rattle.fit.specs.contracts.scale_fit.owns_scale_extremum as owns-scale-extremum
 use Rattle.fit.specs.contracts.reference.polynomial_extrema as polynomial-extrema
 use Rattle.fit.specs.contracts.stream.is_within as is_Within
@@ -48,6 +50,7 @@ use Rattle.pixel.specs.contracts.ring.beats_all as beats-all
 use Rattle.pixel.specs.contracts.judge.cubics_of as cubics-of
 use Rattle.pixel.specs.contracts.judge.verdict as verdict
 use Rattle.pixel.specs.contracts.judge.listing as listing
+use Rattle.listing.specs.contracts.lay_both as lay-both
 use Rattle.listing.specs.contracts.lay_listing as lay-listing
 use Rattle.profile.specs.contracts.profile_compatibility_statistic as profile-compatibility-statistic
 use Rattle.size.specs.contracts.anchor.geometry_of as geometry-of
@@ -61,6 +64,9 @@ use Rattle.promises.proofs.Facts.{both_told, one_answer, untouched}
 
 module _ {M : Type 1} {𝓤 : Ura M} (𝓛 : Logic 𝓤) (mem : Memory → SProp 𝓤) (run : Routine → Fun 𝓤) where
   -- ---- the fits
+
+  pub pick_settled : Settles 𝓤 pick.ended (pick.clauses 𝓛 mem run)
+  pick_settled κs a g g' r r' ws ws' = one_answer 𝓤 _
 
   pub row_settled : Settles 𝓤 row.ended (row.clauses 𝓛 mem run)
   row_settled κs a g g' r r' ws ws' = one_answer 𝓤 _
@@ -94,6 +100,9 @@ module _ {M : Type 1} {𝓤 : Ura M} (𝓛 : Logic 𝓤) (mem : Memory → SProp
 
   pub band_extreme_settled : Settles 𝓤 band-extreme.ended (band-extreme.clauses 𝓛 mem run)
   band_extreme_settled κs a g g' r r' ws ws' = one_answer 𝓤 _
+
+  pub all_finite_settled : Settles 𝓤 all-finite.ended (all-finite.clauses 𝓛 mem run)
+  all_finite_settled κs a g g' r r' ws ws' = one_answer 𝓤 _
 
   pub owns_scale_extremum_settled : Settles 𝓤 owns-scale-extremum.ended (owns-scale-extremum.clauses 𝓛 mem run)
   owns_scale_extremum_settled κs a g g' r r' ws ws' = one_answer 𝓤 _
@@ -191,6 +200,9 @@ module _ {M : Type 1} {𝓤 : Ura M} (𝓛 : Logic 𝓤) (mem : Memory → SProp
 
   pub listing_settled : Settles 𝓤 listing.ended (listing.clauses 𝓛 mem run)
   listing_settled κs a g g' r r' ws ws' = both_told 𝓤 (λ p q. (λ i. record { low = (p.0 ∙ sym q.0) i; high = (p.1 ∙ sym q.1) i }, refl))
+
+  pub lay_both_settled : Settles 𝓤 lay-both.ended (lay-both.clauses 𝓛 mem run)
+  lay_both_settled κs a g g' r r' ws ws' = both_told 𝓤 (λ p q. (p.count ∙ sym q.count, ap (λ b. (b, untouched 2 tt)) (p.bytes ∙ sym q.bytes)))
 
   pub lay_listing_settled : Settles 𝓤 lay-listing.ended (lay-listing.clauses 𝓛 mem run)
   lay_listing_settled κs a g g' r r' ws ws' = both_told 𝓤 (λ p q. (p.count ∙ sym q.count, ap (λ b. untouched 6 (b, untouched 1 tt)) (p.bytes ∙ sym q.bytes)))

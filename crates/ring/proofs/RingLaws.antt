@@ -1,12 +1,16 @@
 -- Where the slots of the ring lie, and what is read of them while a column is given. Assumes nothing.
 use Prim.Native.Nat.{ℕ, suc, ◌+◌, ◌-◌, ◌*◌, ◌%◌, ◌≤◌, ◌<◌}
 use native.Mathlib.Nat.{add_assoc, mul-le-mul_right, suc-mul}
+use native.Mathlib.Numerals.{add-one}
 use native.Mathlib.Omega.{arith}
 use mathlib.Core.Path.{◌≡◌, refl, ap, ◌∙◌}
-use mathlib.Core.List.{List}
+use mathlib.Core.List.{List, [], ◌∷◌}
 use lib.Arith.{digits_lt}
+use lib.ListN.{length, get_or, set, take}
+use lib.Seq.{sets, length-take-le, take-suc}
 use lib.Ieee.{Float}
 use borrow.Author.Tests.{eq-eqb, ne_eqb}
+use Rattle.words.proofs.Stores.{sets-append}
 use Rattle.fit.specs.Cubic.{◌at◌}
 use Rattle.samples.specs.Level.{stencil_of, nine_of}
 use Rattle.samples.specs.Four.{Four, samples_by}
@@ -28,6 +32,12 @@ slot-room rows n = omega (arith, mul-le-mul_right {m = suc (n % 5)} {n = 5} rows
 -- columns five apart share a slot
 pub slot_same : (rows row a b : ℕ) → a % 5 ≡ b % 5 → slot_of rows a + row ≡ slot_of rows b + row
 slot_same rows row a b e = ap (λ (q : ℕ). q * rows + row) e
+
+-- one store more
+pub stored_more : (l c : List Float) (from i : ℕ) (d : Float) → i < length c → set (sets l from (take i c)) (from + i) (get_or c i d) ≡ sets l from (take (i + 1) c)
+stored_more l c from i d h =
+    let n : length (take i c) ≡ i = length-take-le i c (omega arith) in
+    rw (add-one, take-suc c i d h, sets-append (take i c) (get_or c i d ∷ []) l from, n)
 
 -- ---- what is read
 

@@ -54,12 +54,22 @@ pub fn nine_at<'a>(
     nine::nine_by(ring, given, u, x, y, z, b, g)
 }
 
+// The column goes to the ring from the place from on.
+fn copy(ring: &mut [f32], from: usize, column: &[f32])
+    requires { from + length column.now ≤ length ring.old }
+    ensures { ring.new ≡ sets ring.old from column.now }
+{
+    for i in 0..column.len() {
+        ring[from + i] = column[i];
+    }
+}
+
 // Where the column is taken, it goes to the ring from the place from on; else the ring stays as it was.
 pub fn store(taken: bool, ring: &mut [f32], from: usize, column: &[f32])
     requires { from + length column.now ≤ length ring.old }
     ensures { ring.new ≡ cond taken (sets ring.old from column.now) ring.old }
 {
     if taken {
-        ring[from..from + column.len()].copy_from_slice(column);
+        copy(ring, from, column);
     }
 }

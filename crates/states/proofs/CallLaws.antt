@@ -1,6 +1,5 @@
 -- The two calls over bytes: by what they refuse, and what they leave. Assumes nothing.
 use Rattle.std.specs.Prelude.{Result, Ok, Err}
-use Rattle.std.specs.Result.{result_and}
 use Prim.Native.Nat.{ℕ, ◌+◌, ◌≤◌, ◌<◌}
 use native.Mathlib.Omega.{arith}
 use mathlib.Core.Path.{◌≡◌, refl, sym, ap, ◌∙◌}
@@ -20,7 +19,8 @@ use Rattle.tables.proofs.SetLaws.{read_good, good-long}
 use Rattle.tables.proofs.RefusalLaws.{unless-fine, sides_most}
 use Rattle.ring.specs.declared.State.{State}
 use Rattle.samples.specs.Four.{Four}
-use Rattle.feed.specs.Feed.{start_checks, start_of, After, after, column_of}
+use Rattle.feed.specs.declared.Unstarted.{Unstarted}
+use Rattle.feed.specs.Feed.{start_checks, start_of, said, After, after, column_of}
 use Rattle.feed.proofs.FeedLaws.{start-answer, taken_passed}
 use Rattle.states.specs.Bytes.{state_width, state_of, opened_bytes, state_check, bytes_checks, start_left, start_left_by, start_bytes, column_left, column_left_by, column_bytes}
 
@@ -69,10 +69,10 @@ module _ (set : List ℕ) (th : Thresholds) (rows cols octave n0 n1 n2 n3 : ℕ)
       }
 
   -- start's own answer is that of its checks
-  pub own-answer : (read : Set) (started : Result State Refusal) → read ≡ read_or_blank set → started ≡ start_of read th rows cols octave n0 n1 n2 n3 → (w : Result State Refusal) → started ≡ w → first_of own ≡ result_and w (Ok tt)
+  pub own-answer : (read : Set) (started : Result State Unstarted) → read ≡ read_or_blank set → started ≡ start_of read th rows cols octave n0 n1 n2 n3 → (w : Result State Unstarted) → started ≡ w → first_of own ≡ said w
   own-answer read started er es w e =
       sym (start-answer (read_or_blank set) th rows cols octave n0 n1 n2 n3)
-      ∙ ap (λ (r : Set). result_and (start_of r th rows cols octave n0 n1 n2 n3) (Ok tt)) (sym er) ∙ ap (λ (x : Result State Refusal). result_and x (Ok tt)) (sym es ∙ e)
+      ∙ ap (λ (r : Set). said (start_of r th rows cols octave n0 n1 n2 n3)) (sym er) ∙ ap said (sym es ∙ e)
 
   pub start-bad : (r : Refusal) → first_of own ≡ Err r → start_left (number r) state ≡ start_bytes set th rows cols octave n0 n1 n2 n3 state
   unfolding start_bytes bytes_checks start_left_by

@@ -29,7 +29,7 @@ pub fn start<'a>(
 {
     let tables = tables::read_or_blank(set);
     match feed::feed_start(tables, thresholds, rows, cols, octave, r0, r1, r2, r3) {
-        Err(why) => u32::from(why),
+        Err(unstarted) => u32::from(unstarted.why),
         Ok(_) => {
             if state.len() < 564 {
                 return u32::from(Refusal::Room);

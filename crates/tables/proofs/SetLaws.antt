@@ -14,10 +14,9 @@ use Rattle.float.specs.Small.{finite}
 use Rattle.float.specs.Num.{f0}
 use Rattle.float.proofs.Bools.{both, all_four, all_five}
 use Rattle.tables.specs.declared.Set.{Set}
-use Rattle.tables.specs.declared.Refusal.{Refusal}
-use Rattle.tables.specs.declared.Refusal.TheVariants.{BadSet}
 use Rattle.tables.specs.Set.{every, all_finite, all_under, rising, all_set, good, blank, set_of, spare_zero, good_record}
-use Rattle.tables.specs.Refusal.{number, refused_set, read_set_of, read_or_blank}
+use Rattle.tables.specs.declared.Unread.{Unread}
+use Rattle.tables.specs.Refusal.{number, not_read, refused_set, read_set_of, read_or_blank}
 use Rattle.tables.specs.SetT.{values, sigmas_t, cubic_t, row, block_t, numbers_t, set_t}
 use Rattle.tables.proofs.Floats.{no_nan-above, above_positive}
 
@@ -111,16 +110,25 @@ pub wrong_length-refused : (b : List ℕ) → (length b ≡ 528 → ⊥) → rea
 wrong_length-refused b h = bad-record-refused b (wrong_length b h)
 
 -- a refusal comes of a bad record alone
-pub refused-only-bad : (b : List ℕ) (w : Refusal) → read_set_of b ≡ Err w → good_record b ≡ false
+pub refused-only-bad : (b : List ℕ) (w : Unread) → read_set_of b ≡ Err w → good_record b ≡ false
 refused-only-bad b w e = go (good_record b) refl
   where
     go : (t : Bool) → good_record b ≡ t → good_record b ≡ false
-    go true t = let z : ◌≡◌ {A = Result Set Refusal} (Ok (set_of b)) (Err w) = sym (good-record_read b t) ∙ e in cc
+    go true t = let z : ◌≡◌ {A = Result Set Unread} (Ok (set_of b)) (Err w) = sym (good-record_read b t) ∙ e in cc
     go false t = t
 
-pub refusal-is_four : (b : List ℕ) (w : Refusal) → read_set_of b ≡ Err w → number w ≡ 4
-unfolding number refused_set
-refusal-is_four b w e = let z : ◌≡◌ {A = Result Set Refusal} (Err BadSet) (Err w) = sym (bad-record-refused b (refused-only-bad b w e)) ∙ e in cc
+-- what is answered to one: the refusal, and the set beside it
+pub refused-with : (b : List ℕ) (w : Unread) → read_set_of b ≡ Err w → w ≡ not_read
+unfolding refused_set
+refused-with b w e = let z : ◌≡◌ {A = Result Set Unread} (Err not_read) (Err w) = sym (bad-record-refused b (refused-only-bad b w e)) ∙ e in cc
+
+pub refusal-is_four : (b : List ℕ) (w : Unread) → read_set_of b ≡ Err w → number w.why ≡ 4
+unfolding number
+refusal-is_four b w e = rw (refused-with b w e)
+
+-- the set beside a refusal is the one of zeros
+pub refused-zeros : (b : List ℕ) (w : Unread) → read_set_of b ≡ Err w → w.set ≡ blank
+refused-zeros b w e = rw (refused-with b w e)
 
 -- ---- set T
 
@@ -154,11 +162,11 @@ unfolding read_or_blank refused_set
 read-held b s e = go (good_record b) refl
   where
     go : (t : Bool) → good_record b ≡ t → read_or_blank b ≡ s
-    go true t = let z : ◌≡◌ {A = Result Set Refusal} (Ok (set_of b)) (Ok s) = sym (good-record_read b t) ∙ e in let y : set_of b ≡ s = cc in rw t y
-    go false t = let z : ◌≡◌ {A = Result Set Refusal} (Err BadSet) (Ok s) = sym (bad-record-refused b t) ∙ e in cc
+    go true t = let z : ◌≡◌ {A = Result Set Unread} (Ok (set_of b)) (Ok s) = sym (good-record_read b t) ∙ e in let y : set_of b ≡ s = cc in rw t y
+    go false t = let z : ◌≡◌ {A = Result Set Unread} (Err not_read) (Ok s) = sym (bad-record-refused b t) ∙ e in cc
 
 -- and that of a refused record is blank
-pub refused-blank : (b : List ℕ) (w : Refusal) → read_set_of b ≡ Err w → read_or_blank b ≡ blank
+pub refused-blank : (b : List ℕ) (w : Unread) → read_set_of b ≡ Err w → read_or_blank b ≡ blank
 unfolding read_or_blank
 refused-blank b w e = rw (refused-only-bad b w e)
 

@@ -6,6 +6,7 @@ use Rattle.tables.specs.declared.Refusal.TheVariants.{Size, Level, Octave, BadSe
 use Rattle.tables.specs.declared.Missing.{Missing}
 use Rattle.tables.specs.declared.Missing.TheVariants.{Polarity, Range}
 use Rattle.tables.specs.declared.Set.{Set}
+use Rattle.tables.specs.declared.Unread.{Unread}
 use Rattle.tables.specs.declared.Thresholds as limits
 use Rattle.tables.specs.Set.{good, set_of, good_record, blank}
 
@@ -108,12 +109,16 @@ set_check s = BadSet when not (good s)
 
 -- ---- the reader of a set
 
--- the answer to a bad record: refusal 4
-unfoldable pub refused_set : Result Set Refusal
-refused_set = Err BadSet
+-- of a bad record: refusal 4, and a set of zeros beside it
+abbrev pub not_read : Unread
+not_read = record { why = BadSet; set = blank }
+
+-- the answer to it
+unfoldable pub refused_set : Result Set Unread
+refused_set = Err not_read
 
 -- the set of a good record; otherwise the refusal
-unfoldable pub read_set_of : List ℕ → Result Set Refusal
+unfoldable pub read_set_of : List ℕ → Result Set Unread
 read_set_of b = cond (good_record b) (Ok (set_of b)) refused_set
 
 -- the set that is read; of a refused record, the set of zeros

@@ -60,6 +60,13 @@ pub enum Refusal {
     NoSpot,
 }
 
+// Why a set's record was not read; and in the set's place that of zeros, which is not good.
+#[derive(Clone, Copy)]
+pub struct Unread {
+    pub why: Refusal,
+    pub set: Set,
+}
+
 // Whether the set is good.
 pub fn is_good(s: Set) -> bool
     ensures { result ≡ good s }
@@ -77,19 +84,19 @@ pub fn has_nan(t: Thresholds) -> bool
     limits::nan_among(t.peak, t.sigma, t.ratio, t.low, t.high)
 }
 
-// The set that a record holds, or the refusal of the record.
-pub fn read_set(bytes: &[u8]) -> Result<Set, Refusal>
+// The set that a record holds, or the refusal of the record with the set of zeros beside it.
+pub fn read_set(bytes: &[u8]) -> Result<Set, Unread>
     ensures { result ≡ read_set_of bytes.now }
 {
     if bytes.len() != 528 {
-        return Err(Refusal::BadSet);
+        return Err(reader::refused());
     }
     if !reader::is_spare_zero(bytes) {
-        return Err(Refusal::BadSet);
+        return Err(reader::refused());
     }
     let set = reader::set_of(bytes);
     if !is_good(set) {
-        return Err(Refusal::BadSet);
+        return Err(reader::refused());
     }
     Ok(set)
 }
@@ -100,6 +107,6 @@ pub fn read_or_blank(bytes: &[u8]) -> Set
 {
     match read_set(bytes) {
         Ok(set) => set,
-        Err(_) => reader::blank(),
+        Err(unread) => unread.set,
     }
 }

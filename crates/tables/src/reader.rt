@@ -1,8 +1,9 @@
 // The parts of a set's record, each by its place.
 ghost use Rattle.std.specs.Prelude.{◌≡◌, ◌≤◌, length, take, drop};
 ghost use Rattle.tables.specs.Set.{blank, set_of, spare_zero};
+ghost use Rattle.tables.specs.Refusal.{not_read};
 
-use crate::Set;
+use crate::{Refusal, Set, Unread};
 
 // The nine sample-order bytes.
 fn order_of(bytes: &[u8]) -> [u8; 9]
@@ -59,5 +60,15 @@ pub fn blank() -> Set
         spatial: [0.0; 90],
         numbers: [0.0; 11],
         order: [0; 9],
+    }
+}
+
+// The answer to a record that is not that of a good set.
+pub fn refused() -> Unread
+    ensures { result ≡ not_read }
+{
+    Unread {
+        why: Refusal::BadSet,
+        set: blank(),
     }
 }

@@ -9,7 +9,9 @@ fn copy_column(level: &[f32], p: usize, n: usize, out: &mut [f32], at: usize)
     requires n_in_bounds_2 { at + n ≤ length out.old }
     ensures { out.new ≡ sets out.old at (take n (drop p level.now)) }
 {
-    out[at..at + n].copy_from_slice(&level[p..p + n]);
+    for r in 0..n {
+        out[at + r] = level[p + r];
+    }
 }
 
 // The h by w pixels of a level of rows rows that begin at (r0, c0) go to the buffer's start.

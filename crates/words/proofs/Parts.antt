@@ -17,6 +17,12 @@ copied_next out s at p n r d h k =
     let long : length (take r (drop p s)) ≡ r = length-take-le r (drop p s) (omega arith) in
     rw (add-one, take-suc (drop p s) r d fits, sets-append (take r (drop p s)) (get_or (drop p s) r d ∷ []) out at, long, get_or-drop p s r d)
 
+-- one element more of a list's first ones
+pub copied_first : {A : Type 0} (out s : List A) (at n r : ℕ) (d : A) → r < n → n ≤ length s → set (sets out at (take r s)) (at + r) (get_or s r d) ≡ sets out at (take (r + 1) s)
+copied_first out s at n r d h k =
+    let e : 0 + r ≡ r = omega arith in
+    ap (λ (x : ℕ). set (sets out at (take r s)) (at + r) (get_or s x d)) (sym e) ∙ copied_next out s at 0 n r d h (omega arith)
+
 -- one element more of a list that is filled from a part of another
 pub filled_part : {A : Type 0} (out s : List A) (p k : ℕ) (d : A) → k < length out → p + k < length s → take k out ≡ take k (drop p s)
     → take (k + 1) (set out k (get_or s (p + k) d)) ≡ take (k + 1) (drop p s)

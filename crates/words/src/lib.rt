@@ -66,7 +66,9 @@ pub fn put_first(out: &mut [u8], at: usize, s: &[u8], n: usize)
     requires n_in_bounds_2 { at + n ≤ length out.old }
     ensures { out.new ≡ sets out.old at (take n s.now) }
 {
-    out[at..at + n].copy_from_slice(&s[..n]);
+    for k in 0..n {
+        out[at + k] = s[k];
+    }
 }
 
 // ---- reading

@@ -1,22 +1,28 @@
--- `copy::copy_column` meets its contract: what `copy_from_slice` leaves is what storing the floats one by one leaves.
-use Prim.Native.Nat.{ℕ, ◌+◌, ◌-◌, ◌≤◌}
+-- `copy::copy_column` meets its contract. The loop's invariant: the first r floats are stored.
+use mathlib.Core.Path.{◌≡◌, refl, ap, ◌∙◌}
+use Prim.Native.Nat.{◌+◌, ◌≤◌}
 use native.Mathlib.Omega.{arith}
-use mathlib.Core.Path.{◌≡◌, sym, ap, ◌∙◌}
-use mathlib.Core.List.{◌++◌}
-use lib.ListN.{length, take, drop, length-take, length-drop}
-use Rattle.std.proofs.lemmas.List.{append_assoc}
-use Rattle.std.proofs.lemmas.List.Edits.{sets-eq, paste_all}
-use Rattle.std.proofs.lemmas.Slice.{put_mid-paste}
+use lib.ListN.{length, take, drop}
+use lib.Seq.{length-sets}
+use lib.Ieee.{nan}
+use Rattle.words.proofs.Parts.{copied_next}
 use Rattle.tiles.proofs.copy.copy_column.Goals as goal
 
-pub returns : goal.returns
-returns c =
+pub loop-r-init : goal.loop-r-init
+loop-r-init c = (omega arith, refl)
+
+pub bounds-out-at : goal.bounds-out-at
+bounds-out-at c = omega (arith, ap length c.loop-r.invariant.1, length-sets c.args.out.now c.args.at (take c.loop-r.r (drop c.args.p c.args.level.now)))
+
+pub loop-r-preserved : goal.loop-r-preserved
+loop-r-preserved c =
     let a = c.args in
-    let column = take a.n (drop a.p a.level.now) in
-    let long : a.n ≡ length column = simp (length-take, length-drop) (omega arith) in
-    let whole : a.p + a.n - a.p ≡ a.n = omega arith in
-    let copied = c.copy_from_slice.ensures.after ∙ ap (λ (n : ℕ). take n (drop a.p a.level.now)) whole in
-    let fits : a.at + length column ≤ length a.out.now = omega (arith, long, c.requires.n_in_bounds_2) in
-    put_mid-paste a.at (a.at + a.n - a.at) a.out.now _ column a.n copied (omega arith) long
-    ∙ paste_all a.out.now a.at column a.n long
-    ∙ sym (sets-eq column a.out.now a.at fits ∙ append_assoc (take a.at a.out.now) column (drop (a.at + length column) a.out.now) ∙ ap (λ (n : ℕ). take a.at a.out.now ++ (column ++ drop (a.at + n) a.out.now)) (sym long))
+    let l = c.loop-r in
+    let fits : a.p + a.n ≤ length a.level.now = omega arith in
+    (omega arith, rw l.invariant.1 (copied_next a.out.now a.level.now a.at a.p a.n l.r nan (omega arith) fits))
+
+pub shape_of-out : goal.shape_of-out
+shape_of-out c = ap length c.loop-r.invariant.1 ∙ length-sets c.args.out.now c.args.at (take c.loop-r.r (drop c.args.p c.args.level.now))
+
+pub returns : goal.returns
+returns c = let end : c.loop-r.r ≡ c.args.n = omega arith in rw end at c.loop-r.invariant.1
